@@ -1,0 +1,3 @@
+pub mod Status
+pub mod Refusals
+pub mod Held

@@ -1,0 +1,4 @@
+pub mod Terminals
+pub mod Making
+pub mod Plain
+pub mod Loop

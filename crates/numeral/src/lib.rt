@@ -1,0 +1,3 @@
+//! Numbers and bytes written as words: decimal and hex.
+pub mod decimal;
+pub mod hex;

@@ -1,0 +1,3 @@
+//! The steady contact, a layer over any board.
+mod run;
+pub mod steady;

@@ -1,0 +1,4 @@
+pub mod Fault
+pub mod Keyword
+pub mod Step
+pub mod List

@@ -1,0 +1,2 @@
+//! The text of what a board answers to a call of a wiring list.
+pub mod answer;
