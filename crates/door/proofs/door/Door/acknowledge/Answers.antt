@@ -1,0 +1,5 @@
+use Rattle.door.proofs.Legal.{legal-acknowledge}
+use Rattle.door.proofs.door.Door.acknowledge.Needs as need
+
+pub ghost-result : need.ghost-result
+ghost-result c = (legal-acknowledge (c .args .self .row) (c .in-Continue-row .row) (c .args .number) (c .args .self .ok) (c .in-Continue-row .ensures tt), tt)

@@ -1,0 +1,5 @@
+use Rattle.door.proofs.Legal.{legal-set}
+use Rattle.door.proofs.door.Door.set.Needs as need
+
+pub ghost-result : need.ghost-result
+ghost-result c = (legal-set (c .args .self .row) (c .in-Continue-row .row) (c .args .item) (c .args .number) (c .args .self .ok) (c .in-Continue-row .ensures tt), tt)

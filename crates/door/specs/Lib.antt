@@ -1,0 +1,5 @@
+pub mod Row
+pub mod Simulated
+pub mod Calls
+pub mod Tick
+pub mod Shown

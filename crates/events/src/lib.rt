@@ -1,0 +1,3 @@
+//! Alarm states and events: what an alarm leads to, and how transitions are noted.
+pub mod alarm;
+pub mod event;

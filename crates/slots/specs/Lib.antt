@@ -1,0 +1,4 @@
+pub mod Value
+pub mod Sounder
+pub mod Priority
+pub mod Slots
