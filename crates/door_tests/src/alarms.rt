@@ -118,14 +118,16 @@ fn a_masked_open_too_long_is_normal() -> Result<(), Fail> {
 
 #[test]
 fn sets_have_bits_1_to_8() -> Result<(), Fail> {
-    let mut bench = Bench::new(READINGS[1]);
-    for item in [234u64, 7, 39] {
-        bench.set(item, 510)?;
-        bench.set(item, 0)?;
-        for number in [1u64, 511, 512, 65536, u64::MAX] {
-            bench
-                .set_refused(item, number, Cause::ValueOutOfRange)
-                .note(number)?;
+    for reading in READINGS {
+        let mut bench = Bench::new(reading);
+        for item in [234u64, 7, 39] {
+            bench.set(item, 510)?;
+            bench.set(item, 0)?;
+            for number in [1u64, 511, 512, 65536, u64::MAX] {
+                bench
+                    .set_refused(item, number, Cause::ValueOutOfRange)
+                    .note(number)?;
+            }
         }
     }
     Ok(())
@@ -133,26 +135,28 @@ fn sets_have_bits_1_to_8() -> Result<(), Fail> {
 
 #[test]
 fn settings_have_ranges() -> Result<(), Fail> {
-    let mut bench = Bench::new(READINGS[0]);
-    for (item, most) in [
-        (230u64, 864_000u64),
-        (227, 864_000),
-        (232, 864_000),
-        (229, 864_000),
-        (113, 86_400),
-        (104, 1),
-        (35, 7),
-    ] {
-        bench.set(item, 0)?;
-        bench.set(item, most)?;
-        bench
-            .set_refused(item, most.saturating_add(1), Cause::ValueOutOfRange)
-            .note(item)?;
-    }
-    for item in [0u64, 6, 8, 226, 231, 233, 235, u64::MAX] {
-        bench
-            .set_refused(item, u64::MAX, Cause::NoSuchItem)
-            .note(item)?;
+    for reading in READINGS {
+        let mut bench = Bench::new(reading);
+        for (item, most) in [
+            (230u64, 864_000u64),
+            (227, 864_000),
+            (232, 864_000),
+            (229, 864_000),
+            (113, 86_400),
+            (104, 1),
+            (35, 7),
+        ] {
+            bench.set(item, 0)?;
+            bench.set(item, most)?;
+            bench
+                .set_refused(item, most.saturating_add(1), Cause::ValueOutOfRange)
+                .note(item)?;
+        }
+        for item in [0u64, 6, 8, 226, 231, 233, 235, u64::MAX] {
+            bench
+                .set_refused(item, u64::MAX, Cause::NoSuchItem)
+                .note(item)?;
+        }
     }
     Ok(())
 }

@@ -28,7 +28,7 @@ pub struct Bench {
 }
 
 impl Bench {
-    pub fn new(reading: LockStatus) -> Bench {
+    pub(crate) fn new(reading: LockStatus) -> Bench {
         Bench {
             row: Row::at_making(),
             reading,
@@ -36,7 +36,7 @@ impl Bench {
         }
     }
 
-    pub fn row(&self) -> Row {
+    pub(crate) fn row(&self) -> Row {
         self.row
     }
 
@@ -57,41 +57,46 @@ impl Bench {
         }
     }
 
-    pub fn command(&mut self, priority: u64, value: Option<u64>) -> Result<(), Fail> {
+    pub(crate) fn command(&mut self, priority: u64, value: Option<u64>) -> Result<(), Fail> {
         let outcome = self.door()?.command(priority, value);
         self.store(outcome)
     }
 
-    pub fn set(&mut self, item: u64, number: u64) -> Result<(), Fail> {
+    pub(crate) fn set(&mut self, item: u64, number: u64) -> Result<(), Fail> {
         let outcome = self.door()?.set(item, number);
         self.store(outcome)
     }
 
-    pub fn simulate(&mut self, item: u64, number: u64) -> Result<(), Fail> {
+    pub(crate) fn simulate(&mut self, item: u64, number: u64) -> Result<(), Fail> {
         let outcome = self.door()?.simulate(item, number);
         self.store(outcome)
     }
 
-    pub fn service(&mut self, number: u64) -> Result<(), Fail> {
+    pub(crate) fn service(&mut self, number: u64) -> Result<(), Fail> {
         let outcome = self.door()?.service(number);
         self.store(outcome)
     }
 
-    pub fn acknowledge(&mut self, number: u64) -> Result<(), Fail> {
+    pub(crate) fn acknowledge(&mut self, number: u64) -> Result<(), Fail> {
         let outcome = self.door()?.acknowledge(number);
         self.store(outcome)
     }
 
     // The cause for which a set call is refused.
-    pub fn set_refused(&self, item: u64, number: u64, cause: Cause) -> Result<(), Fail> {
+    pub(crate) fn set_refused(&self, item: u64, number: u64, cause: Cause) -> Result<(), Fail> {
         refused(self.door()?.set(item, number), cause)
     }
 
-    pub fn simulate_refused(&self, item: u64, number: u64, cause: Cause) -> Result<(), Fail> {
+    pub(crate) fn simulate_refused(
+        &self,
+        item: u64,
+        number: u64,
+        cause: Cause,
+    ) -> Result<(), Fail> {
         refused(self.door()?.simulate(item, number), cause)
     }
 
-    pub fn command_refused(
+    pub(crate) fn command_refused(
         &self,
         priority: u64,
         value: Option<u64>,
@@ -100,16 +105,16 @@ impl Bench {
         refused(self.door()?.command(priority, value), cause)
     }
 
-    pub fn service_refused(&self, number: u64, cause: Cause) -> Result<(), Fail> {
+    pub(crate) fn service_refused(&self, number: u64, cause: Cause) -> Result<(), Fail> {
         refused(self.door()?.service(number), cause)
     }
 
-    pub fn acknowledge_refused(&self, number: u64, cause: Cause) -> Result<(), Fail> {
+    pub(crate) fn acknowledge_refused(&self, number: u64, cause: Cause) -> Result<(), Fail> {
         refused(self.door()?.acknowledge(number), cause)
     }
 
     // One tick with that contact, and the number of the transition, if there was one.
-    pub fn tick(&mut self, contact: DoorStatus) -> Result<Option<u8>, Fail> {
+    pub(crate) fn tick(&mut self, contact: DoorStatus) -> Result<Option<u8>, Fail> {
         self.tenth = self.tenth.saturating_add(1);
         match self.door()?.tick(contact, self.reading, self.tenth) {
             Ok(ticked) => {
@@ -120,14 +125,14 @@ impl Bench {
         }
     }
 
-    pub fn ticks(&mut self, count: u32, contact: DoorStatus) -> Result<(), Fail> {
+    pub(crate) fn ticks(&mut self, count: u32, contact: DoorStatus) -> Result<(), Fail> {
         for _ in 0..count {
             let _ = self.tick(contact)?;
         }
         Ok(())
     }
 
-    pub fn read(&mut self, reading: LockStatus) {
+    pub(crate) fn read(&mut self, reading: LockStatus) {
         self.reading = reading;
     }
 }

@@ -32,26 +32,29 @@ fn out_of_service_three_things_rest() -> Result<(), Fail> {
 
 #[test]
 fn simulating_is_refused_in_order() -> Result<(), Fail> {
-    let mut bench = Bench::new(READINGS[1]);
-    bench.set(234, 16)?;
-    bench.simulate_refused(230, 0, Cause::NoSuchItem)?;
-    bench.simulate_refused(230, 99, Cause::NoSuchItem)?;
-    for (item, number) in [(231u64, 3u64), (233, 4), (226, 9)] {
-        bench
-            .simulate_refused(item, number, Cause::ValueOutOfRange)
-            .note(item)?;
-        bench
-            .simulate_refused(item, number.saturating_sub(1), Cause::SimulateInService)
-            .note(item)?;
+    for reading in READINGS {
+        let mut bench = Bench::new(reading);
+        bench.set(234, 16)?;
+        bench.simulate_refused(230, 0, Cause::NoSuchItem)?;
+        bench.simulate_refused(230, 99, Cause::NoSuchItem)?;
+        for (item, number) in [(231u64, 3u64), (233, 4), (226, 9)] {
+            bench
+                .simulate_refused(item, number, Cause::ValueOutOfRange)
+                .note(item)?;
+            bench
+                .simulate_refused(item, number.saturating_sub(1), Cause::SimulateInService)
+                .note(item)?;
+        }
+        bench.simulate_refused(226, 4, Cause::SimulateInService)?;
+        bench.service(1)?;
+        bench.simulate_refused(226, 4, Cause::AlarmStateMasked)?;
+        bench.simulate(226, 8)?;
+        check_eq(bench.row().sensed.alarm_state.number(), 8)?;
+        bench.set(234, 256)?;
+        check_eq(bench.row().sensed.alarm_state.number(), 0)?;
+        bench.service_refused(2, Cause::ValueOutOfRange)?;
     }
-    bench.simulate_refused(226, 4, Cause::SimulateInService)?;
-    bench.service(1)?;
-    bench.simulate_refused(226, 4, Cause::AlarmStateMasked)?;
-    bench.simulate(226, 8)?;
-    check_eq(bench.row().sensed.alarm_state.number(), 8)?;
-    bench.set(234, 256)?;
-    check_eq(bench.row().sensed.alarm_state.number(), 0)?;
-    bench.service_refused(2, Cause::ValueOutOfRange)
+    Ok(())
 }
 
 #[test]
