@@ -1,4 +1,6 @@
 //! Tests of the boards: each rule of a byte at its edges, making, driving, refusals, and the steady contact.
+#![tactic(auto)]
+
 #[cfg(test)]
 mod driving;
 mod latch;

@@ -1,5 +1,7 @@
 //! Reads reports in hex, one on a line of standard input, and prints what each record says and the mirror after it.
 //! Its argument is the number of rows of the mirror, which starts as doors are at making.
+#![tactic(auto)]
+
 use anyhow::anyhow;
 use decoding::line::read_report;
 use decoding::said::{record_text, row_text};

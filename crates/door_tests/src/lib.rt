@@ -1,4 +1,6 @@
 //! Tests of one door: rules where one could stumble, on doors with a lock monitor and without.
+#![tactic(auto)]
+
 #[cfg(test)]
 mod alarms;
 #[cfg(test)]

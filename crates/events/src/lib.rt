@@ -1,3 +1,5 @@
 //! Alarm states and events: what an alarm leads to, and how transitions are noted.
+#![tactic(auto)]
+
 pub mod alarm;
 pub mod event;

@@ -1,3 +1,5 @@
 //! Numbers and bytes written as words: decimal and hex.
+#![tactic(auto)]
+
 pub mod decimal;
 pub mod hex;

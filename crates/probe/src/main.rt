@@ -1,4 +1,6 @@
 //! Reads a wiring list from standard input, makes its calls on boards, and prints what each board answers.
+#![tactic(auto)]
+
 use anyhow::anyhow;
 use board::board::Board;
 use boards::loop_board::LoopBoard;

@@ -1,3 +1,5 @@
 //! The compact report: the fields that have changed, and the bytes of their records.
+#![tactic(auto)]
+
 pub mod fields;
 pub mod write;

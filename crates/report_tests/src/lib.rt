@@ -1,4 +1,6 @@
 //! Tests of the report: writing, reading, applying, and the way from rows to a mirror of them.
+#![tactic(auto)]
+
 #[cfg(test)]
 mod applying;
 #[cfg(test)]

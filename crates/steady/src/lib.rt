@@ -1,3 +1,5 @@
 //! The steady contact, a layer over any board.
+#![tactic(auto)]
+
 mod run;
 pub mod steady;

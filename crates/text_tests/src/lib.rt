@@ -1,4 +1,6 @@
 //! Tests of the text layer: lines, words, numbers and hex bytes.
+#![tactic(auto)]
+
 #[cfg(test)]
 mod tests {
     use numeral::decimal::{NumberFault, decimal};

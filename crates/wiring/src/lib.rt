@@ -1,4 +1,6 @@
 //! Wiring lists: the boards that a text asks for, and the calls that it makes on them.
+#![tactic(auto)]
+
 pub mod fault;
 mod keyword;
 pub mod list;

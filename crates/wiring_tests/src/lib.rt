@@ -1,4 +1,6 @@
 //! Tests of wiring lists: faulty lines are named with their number and the reason.
+#![tactic(auto)]
+
 #[cfg(test)]
 mod tests {
     use std::alloc::Global;
