@@ -15,7 +15,7 @@ one_more f i old new h e w =
     ∙ ap (flat_map f) (sym (take_more fields_in_order i PresentValue h))
 
 pub loop-field-preserved : goal.loop-field-preserved
-loop-field-preserved c = one_more (text_in c.args.fields.now) c.loop-field.field-index _ _ c.loop-field-test.true c.loop-field.invariant c.in-ok-push-field.ensures
+loop-field-preserved c = one_more (text_in c.args.fields.now) c.loop-field.field-index _ _ c.loop-field-test.true c.loop-field.invariant c.in_ok-push_field.ensures
 
 pub returns : goal.returns
 unfolding fields_text

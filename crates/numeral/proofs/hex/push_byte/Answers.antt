@@ -4,6 +4,6 @@ use Rattle.numeral.proofs.hex.push_byte.Goals as goal
 
 pub returns : goal.returns
 returns c =
-    let first = c.in-ok-push.ensures in
-    let second = c.in-ok-push-2.ensures in
-    write_two (string_bytes c.args.out.now) {new = string_bytes c.push-2.new.self} (first.ascii c.hex-char.ensures.ascii) c.hex-char.ensures.value first.bytes (second.ascii c.hex-char-2.ensures.ascii) c.hex-char-2.ensures.value second.bytes
+    let first = c.in_ok-push.ensures in
+    let second = c.in_ok-push-2.ensures in
+    write_two (string_bytes c.args.out.now) {new = string_bytes c.push-2.new.self} (first.ascii c.hex_char.ensures.ascii) c.hex_char.ensures.value first.bytes (second.ascii c.hex_char-2.ensures.ascii) c.hex_char-2.ensures.value second.bytes

@@ -5,4 +5,4 @@ use Rattle.report.proofs.write.put.Goals as goal
 
 pub returns : goal.returns
 returns c =
-    record { next = search rules; after = part c.args.rest.now c.put-first.new.rest (one_byte c.args.value) c.args.at (width c.args.value) (search rules) c.put-first.ensures.after }
+    record { next = search rules; after = part c.args.rest.now c.put_first.new.rest (one_byte c.args.value) c.args.at (width c.args.value) (search rules) c.put_first.ensures.after }

@@ -5,4 +5,4 @@ use Rattle.report.proofs.write.put_tenths.Goals as goal
 
 pub returns : goal.returns
 returns c =
-    record { next = search rules; after = part c.args.rest.now c.put-first-tenths.new.rest (four_bytes c.args.value) c.args.at (wide_width c.args.value) (search rules) c.put-first-tenths.ensures.after }
+    record { next = search rules; after = part c.args.rest.now c.put_first_tenths.new.rest (four_bytes c.args.value) c.args.at (wide_width c.args.value) (search rules) c.put_first_tenths.ensures.after }

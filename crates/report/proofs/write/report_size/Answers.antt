@@ -9,6 +9,6 @@ loop-door-init c = (sym (ap length (below_none c.args.last.now c.args.rows.now))
 pub loop-door-preserved : goal.loop-door-preserved
 loop-door-preserved c =
     let more = length_more c.args.last.now c.args.rows.now c.loop-door.door in
-    let size = c.size-of-door-size.ensures.value in
+    let size = c.size_of_door-size.ensures.value in
     let v = c.loop-door.invariant in
     (omega arith, omega arith)

@@ -33,7 +33,7 @@ returns c =
     let h5 = grow s e5 (one_byte f.lock_status) _ c.put-e.new.rest c.put-d.result c.put-e.result (width f.lock_status) n5 c.put-e.ensures.next h4 c.put-e.ensures.after in
     let h6 = grow s e6 (one_byte f.secured_status) _ c.put-f.new.rest c.put-e.result c.put-f.result (width f.secured_status) n6 c.put-f.ensures.next h5 c.put-f.ensures.after in
     let h7 = grow s e7 (one_byte f.output) _ c.put-g.new.rest c.put-f.result c.put-g.result (width f.output) n7 c.put-g.ensures.next h6 c.put-g.ensures.after in
-    let h8 = grow s e8 (four_bytes f.released_tenths) _ c.put-tenths.new.rest c.put-g.result c.put-tenths.result (wide_width f.released_tenths) n8 c.put-tenths.ensures.next h7 c.put-tenths.ensures.after in
+    let h8 = grow s e8 (four_bytes f.released_tenths) _ c.put_tenths.new.rest c.put-g.result c.put_tenths.result (wide_width f.released_tenths) n8 c.put_tenths.ensures.next h7 c.put_tenths.ensures.after in
     let m : c.map.result ≡ map_of f = c.map.ensures in
-    let count : c.put-tenths.result ≡ 2 + width f.present_value + width f.status_flags + width f.door_alarm_state + width f.door_status + width f.lock_status + width f.secured_status + width f.output + wide_width f.released_tenths = omega arith in
+    let count : c.put_tenths.result ≡ 2 + width f.present_value + width f.status_flags + width f.door_alarm_state + width f.door_status + width f.lock_status + width f.secured_status + width f.output + wide_width f.released_tenths = omega arith in
     record { count = count; after = cc }

@@ -20,11 +20,11 @@ pub loop-line-preserved : goal.loop-line-preserved
 loop-line-preserved c =
     let v = c.loop-line.invariant in
     let old = c.loop-line.list in
-    let new = c.add-line.new.list in
+    let new = c.add_line.new.list in
     let left = lines_left c.next.new.self in
     let w = c.in-Some.ensures in
-    let r = c.in-ok-answer.ensures in
-    let e = c.in-ok-started.ensures in
+    let r = c.in_ok-answer.ensures in
+    let e = c.in_ok-started.ensures in
     let begun = c.loop-line.started in
     let n = c.loop-line.number in
     let m : length (lines_left c.loop-line.lines) ≡ length left + 1 = ap length w ∙ omega arith in (

@@ -5,6 +5,6 @@ use Rattle.wiring_answers.proofs.answer.board_line.Goals as goal
 
 pub returns : goal.returns
 returns g c =
-    made_same c.sizes-text.result string_bytes _ _
+    made_same c.sizes_text.result string_bytes _ _
     (ap (λ n. sizes_text n c.width.result) c.doors.ensures ∙ ap (sizes_text _) c.width.ensures)
-    c.sizes-text.ensures
+    c.sizes_text.ensures

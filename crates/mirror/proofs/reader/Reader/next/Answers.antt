@@ -2,6 +2,6 @@ use Rattle.std.proofs.Common.{rules}
 use Rattle.mirror.specs.Reading.{fields_size}
 use Rattle.mirror.proofs.reader.Reader.next.Goals as goal
 
-pub read-fields-fields-requires : goal.read-fields-fields-requires
+pub read_fields-fields-requires : goal.read_fields-fields-requires
 unfolding fields_size
-read-fields-fields-requires c = search rules
+read_fields-fields-requires c = search rules

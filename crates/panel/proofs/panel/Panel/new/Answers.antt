@@ -21,8 +21,8 @@ loop-output-preserved g c =
     let h = ap held m ∙ g.met.B.Board.drives b i Held l in
     (held_more i (held (memory c.args.board)) (held (memory b)) _ c.loop-output.invariant.0 h, driven_more g.B.Board.driven i (memory c.args.board) (memory b) _ c.loop-output.invariant.1 m)
 
-pub invariant-of-result : goal.invariant-of-result
-invariant-of-result g c = (refl, (refl, (refl, (kept_fresh c.args.tenth 64 c.at-making.result c.at-making.ensures, omega arith))))
+pub invariant_of-result : goal.invariant_of-result
+invariant_of-result g c = (refl, (refl, (refl, (kept_fresh c.args.tenth 64 c.at_making.result c.at_making.ensures, omega arith))))
 
 pub returns : goal.returns
 returns g c =
@@ -33,7 +33,7 @@ returns g c =
     let all : c.loop-output.output ≡ h.doors + 1 = omega arith in
     record {
       value =
-          made_view h (held (memory c.loop-output.board)) c.loop-output.output c.args.number c.args.tenth c.at-making.result c.at-making-2.result c.none.result c.report-row.result
-          sound.few all c.loop-output.invariant.0 c.at-making.ensures c.at-making-2.ensures c.none.ensures (c.report-row.ensures ∙ ap report_row c.at-making-3.ensures);
+          made_view h (held (memory c.loop-output.board)) c.loop-output.output c.args.number c.args.tenth c.at_making.result c.at_making-2.result c.none.result c.report_row.result
+          sound.few all c.loop-output.invariant.0 c.at_making.ensures c.at_making-2.ensures c.none.ensures (c.report_row.ensures ∙ ap report_row c.at_making-3.ensures);
       memory = c.loop-output.invariant.1 ∙ ap (λ n. all_driven g.B.Board.driven n (memory c.args.board)) all;
     }

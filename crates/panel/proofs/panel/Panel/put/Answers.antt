@@ -3,8 +3,8 @@ use Rattle.history.proofs.Rows.{kept_set}
 use Rattle.panel.proofs.Tables.{held_driven, put_view}
 use Rattle.panel.proofs.panel.Panel.put.Goals as goal
 
-pub invariant-of-self : goal.invariant-of-self
-invariant-of-self g c =
+pub invariant_of-self : goal.invariant_of-self
+invariant_of-self g c =
     let p = c.args.self.now in
     (simp length-set p.table, (p.queue, (p.memo, (kept_set p.tenth p.rows c.args.door c.args.row c.requires.1 p.kept, (p.serials, tt)))))
 
@@ -15,9 +15,9 @@ returns g c =
     let p = c.args.self.now in
     let i = c.args.door in
     let within : i ≤ (held (memory p.board)).doors = omega arith in
-    let m = c.drive-door.ensures in
+    let m = c.drive_door.ensures in
     let h = ap held m ∙ held_driven held g.B.Board.driven (memory p.board) i c.args.row (g.met.B.Board.drives p.board i c.args.row.commanded.output within) in
     record {
-      after = put_view (held (memory p.board)) (held (memory c.drive-door.new.board)) p.rows p.sounder p.waiting p.next_serial p.reported p.number p.tenth i c.args.row c.requires.0 h;
+      after = put_view (held (memory p.board)) (held (memory c.drive_door.new.board)) p.rows p.sounder p.waiting p.next_serial p.reported p.number p.tenth i c.args.row c.requires.0 h;
       memory = m;
     }

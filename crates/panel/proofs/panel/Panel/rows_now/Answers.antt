@@ -15,4 +15,4 @@ loop-door-preserved g c =
     let i = c.loop-door.door in
     let here : i < length p.rows = omega arith in
     let there : i < length c.loop-door.rows = omega arith in
-    (row_more report_row p.rows c.loop-door.rows i _ c.report-row.result here there inv.0 c.report-row.ensures, simp length-set inv.1)
+    (row_more report_row p.rows c.loop-door.rows i _ c.report_row.result here there inv.0 c.report_row.ensures, simp length-set inv.1)

@@ -12,17 +12,17 @@ pub put-requires : goal.put-requires
 put-requires g c =
     let v = view g.B.Board.held g.B.Board.memory c.args.self.now in
     let d = c.args.door in
-    let row : c.into-row-row.result ≡ (door_ticked v d).row = c.into-row-row.ensures ∙ ap (λ (x : TickedRow). x.row) c.tick-door-ticked.ensures in
-    let ok : legal c.into-row-row.result ≡ true = subst (λ (x : Row). legal x ≡ true) (sym c.into-row-row.ensures) c.tick-door-ticked.result.door.ok in
-    (c.requires.0, ticked_kept v d c.into-row-row.result row ok c.requires.1.0 c.requires.1.1.0)
+    let row : c.into_row-row.result ≡ (door_ticked v d).row = c.into_row-row.ensures ∙ ap (λ (x : TickedRow). x.row) c.tick_door-ticked.ensures in
+    let ok : legal c.into_row-row.result ≡ true = subst (λ (x : Row). legal x ≡ true) (sym c.into_row-row.ensures) c.tick_door-ticked.result.door.ok in
+    (c.requires.0, ticked_kept v d c.into_row-row.result row ok c.requires.1.0 c.requires.1.1.0)
 
 pub returns : goal.returns
 returns g c =
     let v = view g.B.Board.held g.B.Board.memory c.args.self.now in
     let d = c.args.door in
-    let row : c.into-row-row.result ≡ (door_ticked v d).row = c.into-row-row.ensures ∙ ap (λ (x : TickedRow). x.row) c.tick-door-ticked.ensures in
+    let row : c.into_row-row.result ≡ (door_ticked v d).row = c.into_row-row.ensures ∙ ap (λ (x : TickedRow). x.row) c.tick_door-ticked.ensures in
     record {
-      after = stepped_is v _ _ d (ticked_door c.tick-door-ticked.result) c.into-row-row.result c.tick-door-ticked.result.transition c.tick-door-ticked.ensures c.into-row-row.ensures refl c.put.ensures.after c.raise.ensures.after;
+      after = stepped_is v _ _ d (ticked_door c.tick_door-ticked.result) c.into_row-row.result c.tick_door-ticked.result.transition c.tick_door-ticked.ensures c.into_row-row.ensures refl c.put.ensures.after c.raise.ensures.after;
       memory =
           ap g.B.Board.memory c.raise.ensures.board ∙ c.put.ensures.memory
           ∙ ap (drives_door g.B.Board.driven (g.B.Board.memory c.args.self.now.board) d) row;

@@ -5,8 +5,8 @@ use Rattle.history.proofs.Rooms.{step_here, step_released, step_last, step_seria
 use Rattle.panel.specs.Look.{view}
 use Rattle.panel.proofs.panel.Panel.step_doors.Goals as goal
 
-pub step-door-requires : goal.step-door-requires
-step-door-requires g c =
+pub step_door-requires : goal.step_door-requires
+step_door-requires g c =
     let p = c.args.self.now in
     let v = view g.B.Board.held g.B.Board.memory p in
     let w = view g.B.Board.held g.B.Board.memory c.loop-door.self in
@@ -21,8 +21,8 @@ loop-door-preserved g c =
     let v = view g.B.Board.held g.B.Board.memory c.args.self.now in
     let w = view g.B.Board.held g.B.Board.memory c.loop-door.self in
     let i = c.loop-door.door in (
-      step_more i v w _ c.loop-door.invariant.0 c.step-door.ensures.after,
-      drive_more g.B.Board.driven i v w (g.B.Board.memory c.args.self.now.board) (g.B.Board.memory c.loop-door.self.board) _ c.loop-door.invariant.0 c.loop-door.invariant.1 c.step-door.ensures.memory,
+      step_more i v w _ c.loop-door.invariant.0 c.step_door.ensures.after,
+      drive_more g.B.Board.driven i v w (g.B.Board.memory c.args.self.now.board) (g.B.Board.memory c.loop-door.self.board) _ c.loop-door.invariant.0 c.loop-door.invariant.1 c.step_door.ensures.memory,
     )
 
 pub returns : goal.returns

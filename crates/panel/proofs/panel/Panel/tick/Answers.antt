@@ -7,8 +7,8 @@ use Rattle.panel.specs.Look.{view}
 use Rattle.panel.proofs.Tables.{kept_row}
 use Rattle.panel.proofs.panel.Panel.tick.Goals as goal
 
-pub step-doors-requires : goal.step-doors-requires
-step-doors-requires g c =
+pub step_doors-requires : goal.step_doors-requires
+step_doors-requires g c =
     let p = c.args.self.now in
     let v = view g.B.Board.held g.B.Board.memory p in
     let bs = c.args.bytes.now in
@@ -34,9 +34,9 @@ returns-in-Ok g c =
     let t = c.begin.ensures.memory ∙ told_is v ins bs u ok told m in
     record {
       value = ok;
-      after = c.step-doors.ensures.after ∙ ap (λ (x : View). doors_stepped (doors_of x) x) e ∙ sym (after_is v ins bs u ok);
+      after = c.step_doors.ensures.after ∙ ap (λ (x : View). doors_stepped (doors_of x) x) e ∙ sym (after_is v ins bs u ok);
       memory =
-          c.step-doors.ensures.memory
+          c.step_doors.ensures.memory
           ∙ ap (λ (x : View). doors_driven g.B.Board.driven (doors_of x) x (g.B.Board.memory c.begin.new.self.board)) e
           ∙ ap (doors_driven g.B.Board.driven (doors_of v) (begun v ins)) t
           ∙ sym (memory_is v ins bs u ok g.B.Board.driven told m);

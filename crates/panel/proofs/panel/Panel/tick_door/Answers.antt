@@ -12,7 +12,7 @@ returns g c =
     let d = c.args.door in
     let x = contact_is h d c.unwrap-contact.result c.requires.0 (sym c.contact.ensures ∙ c.unwrap-contact.ensures) in
     let y = reading_is h d c.unwrap-reading.result c.requires.0 (sym c.reading.ensures ∙ c.unwrap-reading.ensures) in
-    let few : c.door-at.result.row.released_tenths < 2000000000 = subst (λ (r : Row). r.released_tenths < 2000000000) (sym c.door-at.ensures) c.requires.1 in
-    door_ticked_is v d _ c.door-at.result.row c.unwrap-contact.result c.unwrap-reading.result
-    (ticked_is c.tick.result c.unwrap.result c.door-at.result.row c.unwrap-contact.result c.unwrap-reading.result c.args.self.now.tenth c.unwrap.ensures c.tick.ensures few)
-    c.door-at.ensures x y
+    let few : c.door_at.result.row.released_tenths < 2000000000 = subst (λ (r : Row). r.released_tenths < 2000000000) (sym c.door_at.ensures) c.requires.1 in
+    door_ticked_is v d _ c.door_at.result.row c.unwrap-contact.result c.unwrap-reading.result
+    (ticked_is c.tick.result c.unwrap.result c.door_at.result.row c.unwrap-contact.result c.unwrap-reading.result c.args.self.now.tenth c.unwrap.ensures c.tick.ensures few)
+    c.door_at.ensures x y

@@ -8,7 +8,7 @@ returns g c =
     let held = g.B.Board.held in
     let m = g.B.Board.memory c.args.below in
     let h = g.met.B.Board.sound c.args.below in
-    let made = made_layer held m c.args.count c.count-for.result c.new.result c.count-for.ensures.value c.new.ensures h.few in
+    let made = made_layer held m c.args.count c.count_for.result c.new.result c.count_for.ensures.value c.new.ensures h.few in
     let small : count_for c.args.count ≤ 255 = omega arith in
     record {
       made = made;

@@ -4,10 +4,10 @@ use Rattle.text.proofs.Cuts.{within}
 use Rattle.text.proofs.WordCuts.{take_comment}
 use Rattle.text.proofs.words.Words.of.Goals as goal
 
-pub split-at-requires : goal.split-at-requires
-split-at-requires c = within comment c.args.line.now c.comment-start.result c.comment-start.ensures
+pub split_at-requires : goal.split_at-requires
+split_at-requires c = within comment c.args.line.now c.comment_start.result c.comment_start.ensures
 
 pub returns : goal.returns
 returns c =
     let line = c.args.line.now in
-    ap words_of (c.split-at.ensures.front ∙ ap (λ n. take n line) c.comment-start.ensures ∙ take_comment line)
+    ap words_of (c.split_at.ensures.front ∙ ap (λ n. take n line) c.comment_start.ensures ∙ take_comment line)

@@ -32,7 +32,7 @@ returns g c =
     let t = c.tick.new.self in
     let bs = c.args.bytes.now in
     let hd = held (memory s.below) in
-    let q = told_ok hd bs (sym c.tick.ensures.value ∙ c.in-ok-tick.was) in
+    let q = told_ok hd bs (sym c.tick.ensures.value ∙ c.in_ok-tick.was) in
     let m = told_is hd bs (memory t) _ _ q c.tick.ensures.after in
     let h = g.met.B.Board.sound t in
     let v = c.loop-door.invariant in
@@ -42,7 +42,7 @@ returns g c =
     let same = ap held here in
     let i-is : c.loop-door.door ≡ (held (memory t)).doors = omega arith in
     record {
-      value = sym c.in-ok-tick.was ∙ c.tick.ensures.value;
+      value = sym c.in_ok-tick.was ∙ c.tick.ensures.value;
       after =
           layer_after held (memory c.loop-door.self.below) (g.B.Board.told (memory s.below) bs) s.count c.loop-door.self.count hd.doors c.loop-door.door s.runs c.loop-door.self.runs
           (here ∙ m) v.1 (i-is ∙ cnt) (ap (λ (x : Held). x.doors) same ∙ cnt) (omega arith) (simp (same, ← cnt) v.2)
