@@ -1,3 +1,4 @@
 pub mod Run
 pub mod Steady
 pub mod Law
+pub mod Shown

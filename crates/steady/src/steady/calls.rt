@@ -1,10 +1,10 @@
 ghost use Rattle.std.specs.Prelude.{◌≡◌, ◌<◌, ◌≤◌, map, slice_index_or, slice_set};
-ghost use Rattle.std.proofs.Common.{◌∙◌, ap, arith};
+ghost use Rattle.std.proofs.Common.{ap};
 ghost use Rattle.board.specs.declared.status.DoorStatus.TheVariants.{Closed};
 ghost use Rattle.steady.specs.Run.{run_after, no_run};
 ghost use Rattle.steady.specs.Steady.{Layer, count_for, steady_held, steady_memory, steady_driven, steady_told, steady_fresh, shown_of};
 ghost use Rattle.steady.specs.Law.{Steadies};
-ghost use Rattle.std.proofs.lemmas.List.{length-take-le, length-map};
+ghost use Rattle.steady.specs.Shown.{shown_length};
 ghost use Rattle.board.specs.Held.{Held, with_inputs, Inputs};
 
 use crate::run::Run;
@@ -22,8 +22,8 @@ fn count_for(count: u8) -> u8
 
 impl<B: Board> Steady<B> {
     pub fn new(below: B, count: u8) -> Steady<B>
-        ensures made { steady_memory held memory result ≡ steady_fresh held (memory below) count }
-        ensures steadies { Steadies held driven told (memory below) count (steady_memory held memory result) }
+        ensures made { steady_memory B.held B.memory result ≡ steady_fresh B.held (B.memory below) count }
+        ensures steadies { Steadies B.held B.driven B.told (B.memory below) count (steady_memory B.held B.memory result) }
     {
         Steady {
             below,
@@ -34,10 +34,10 @@ impl<B: Board> Steady<B> {
 
     /// One door's run goes on by the contact that the board below has after a tick.
     fn follow(&mut self, door: usize)
-        requires { door < (held (memory self.old.below)).doors }
+        requires { door < (B.held (B.memory self.old.below)).doors }
         ensures below { self.new.below ≡ self.old.below }
         ensures count { self.new.count ≡ self.old.count }
-        ensures runs { self.new.runs ≡ slice_set self.old.runs door (run_after self.old.count (slice_index_or self.old.runs door no_run) (slice_index_or (held (memory self.old.below)).inputs.contacts door Closed)) }
+        ensures runs { self.new.runs ≡ slice_set self.old.runs door (run_after self.old.count (slice_index_or self.old.runs door no_run) (slice_index_or (B.held (B.memory self.old.below)).inputs.contacts door Closed)) }
     {
         let came = self.below.contact(door).unwrap();
         let run = self.runs[door];
@@ -63,7 +63,7 @@ impl<B: Board> Board for Steady<B> {
           few = h.few;
           narrow = h.narrow;
           outputs = h.outputs;
-          contacts = length-map _ _ ∙ length-take-le _ b.runs (omega arith);
+          contacts = shown_length b.runs (B.Board.held (B.Board.memory b.below)).doors b.table h.few;
           readings = h.readings;
         } };
 
