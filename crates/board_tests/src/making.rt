@@ -4,28 +4,46 @@ use board::status::{DoorStatus, LockStatus, Output};
 use boards::loop_board::LoopBoard;
 use boards::plain_board::PlainBoard;
 use std::process::Abort;
-use std::test::Fail;
 use steady::steady::Steady;
 
 // A new board has that many doors and that width, holds its outputs and knows nothing; past its end it refuses.
-fn is_new<B: Board>(rt: &impl Abort, board: &B, doors: usize, width: usize) -> Result<(), Fail> {
-    assert_eq!(rt; board.doors(), doors);
-    assert_eq!(rt; board.width(), width);
+fn is_new<B: Board>(rt: &impl Abort, board: &B, wished: usize, doors: usize, width: usize) {
+    assert_eq!(rt; board.doors(), doors, "wished {wished}");
+    assert_eq!(rt; board.width(), width, "wished {wished}");
     for door in 0..doors {
-        assert_eq!(rt; board.output(door), Ok(Output::Held));
-        assert_eq!(rt; board.contact(door), Ok(DoorStatus::Unknown));
-        assert_eq!(rt; board.reading(door), Ok(LockStatus::Unknown));
+        assert_eq!(rt; board.output(door), Ok(Output::Held), "wished {wished}");
+        assert_eq!(rt;
+            board.contact(door),
+            Ok(DoorStatus::Unknown),
+            "wished {wished}"
+        );
+        assert_eq!(rt;
+            board.reading(door),
+            Ok(LockStatus::Unknown),
+            "wished {wished}"
+        );
     }
-    assert_eq!(rt; board.output(doors), Ok(Output::Held));
-    assert_eq!(rt; board.contact(doors), Err(Refusal::no_such_output(doors)));
-    assert_eq!(rt; board.reading(doors), Err(Refusal::no_such_output(doors)));
+    assert_eq!(rt; board.output(doors), Ok(Output::Held), "wished {wished}");
+    assert_eq!(rt;
+        board.contact(doors),
+        Err(Refusal::no_such_output(doors)),
+        "wished {wished}"
+    );
+    assert_eq!(rt;
+        board.reading(doors),
+        Err(Refusal::no_such_output(doors)),
+        "wished {wished}"
+    );
     let past = doors.saturating_add(1);
-    assert_eq!(rt; board.output(past), Err(Refusal::no_such_output(past)));
-    Ok(())
+    assert_eq!(rt;
+        board.output(past),
+        Err(Refusal::no_such_output(past)),
+        "wished {wished}"
+    );
 }
 
 #[test]
-fn wished_doors(rt: HostRuntime) -> Result<(), Fail> {
+fn wished_doors(rt: HostRuntime) {
     for (wished, doors) in [
         (0usize, 1usize),
         (1, 1),
@@ -35,15 +53,20 @@ fn wished_doors(rt: HostRuntime) -> Result<(), Fail> {
         (65, 64),
         (usize::MAX, 64),
     ] {
-        is_new(&rt, &PlainBoard::new(wished), doors, doors).note(wished)?;
-        is_new(&rt, &LoopBoard::new(wished), doors, doors.saturating_mul(2)).note(wished)?;
+        is_new(&rt, &PlainBoard::new(wished), wished, doors, doors);
+        is_new(
+            &rt,
+            &LoopBoard::new(wished),
+            wished,
+            doors,
+            doors.saturating_mul(2),
+        );
         is_new(
             &rt,
             &Steady::new(LoopBoard::new(wished), 3),
+            wished,
             doors,
             doors.saturating_mul(2),
-        )
-        .note(wished)?;
+        );
     }
-    Ok(())
 }

@@ -4,7 +4,6 @@ use board::refusal::Refusal;
 use board::status::{DoorStatus, LockStatus, Output};
 use boards::plain_board::PlainBoard;
 use std::process::Abort;
-use std::test::Fail;
 use steady::steady::Steady;
 
 const CLOSED: u8 = 1;
@@ -14,18 +13,17 @@ const OPEN: u8 = 3;
 const NOT_FITTED: u8 = 0;
 
 // The bytes of one door's ticks, each with the contact that is shown after it.
-fn shows(rt: &impl Abort, count: u8, ticks: &[(u8, DoorStatus)]) -> Result<(), Fail> {
+fn shows(rt: &impl Abort, count: u8, ticks: &[(u8, DoorStatus)]) {
     let mut board = Steady::new(PlainBoard::new(1), count);
     assert_eq!(rt; board.contact(0), Ok(DoorStatus::Unknown));
     for (i, (byte, shown)) in ticks.iter().enumerate() {
         assert_eq!(rt; board.tick(&[*byte]), Ok(()));
-        assert_eq!(rt; board.contact(0), Ok(*shown), "{}", i);
+        assert_eq!(rt; board.contact(0), Ok(*shown), "count {count}, tick {i}");
     }
-    Ok(())
 }
 
 #[test]
-fn a_count_of_0_or_1_follows_at_once(rt: HostRuntime) -> Result<(), Fail> {
+fn a_count_of_0_or_1_follows_at_once(rt: HostRuntime) {
     for count in [0u8, 1] {
         shows(
             &rt,
@@ -36,14 +34,12 @@ fn a_count_of_0_or_1_follows_at_once(rt: HostRuntime) -> Result<(), Fail> {
                 (NOT_FITTED, DoorStatus::Unknown),
                 (OPEN, DoorStatus::Opened),
             ],
-        )
-        .note(count)?;
+        );
     }
-    Ok(())
 }
 
 #[test]
-fn a_count_of_2_asks_for_two_in_a_row(rt: HostRuntime) -> Result<(), Fail> {
+fn a_count_of_2_asks_for_two_in_a_row(rt: HostRuntime) {
     shows(
         &rt,
         2,
@@ -59,11 +55,11 @@ fn a_count_of_2_asks_for_two_in_a_row(rt: HostRuntime) -> Result<(), Fail> {
             (NOT_FITTED, DoorStatus::Opened),
             (NOT_FITTED, DoorStatus::Unknown),
         ],
-    )
+    );
 }
 
 #[test]
-fn the_unknown_at_making_is_no_tick(rt: HostRuntime) -> Result<(), Fail> {
+fn the_unknown_at_making_is_no_tick(rt: HostRuntime) {
     shows(
         &rt,
         3,
@@ -76,7 +72,7 @@ fn the_unknown_at_making_is_no_tick(rt: HostRuntime) -> Result<(), Fail> {
             (NOT_FITTED, DoorStatus::Closed),
             (NOT_FITTED, DoorStatus::Unknown),
         ],
-    )
+    );
 }
 
 #[test]

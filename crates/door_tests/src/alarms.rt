@@ -114,16 +114,14 @@ fn a_masked_open_too_long_is_normal(rt: HostRuntime) -> Result<(), Fail> {
 }
 
 #[test]
-fn sets_have_bits_1_to_8() -> Result<(), Fail> {
+fn sets_have_bits_1_to_8(rt: HostRuntime) -> Result<(), Fail> {
     for reading in READINGS {
         let mut bench = Bench::new(reading);
         for item in [234u64, 7, 39] {
             bench.set(item, 510)?;
             bench.set(item, 0)?;
             for number in [1u64, 511, 512, 65536, u64::MAX] {
-                bench
-                    .set_refused(item, number, Cause::ValueOutOfRange)
-                    .note(number)?;
+                bench.set_refused(&rt, item, number, Cause::ValueOutOfRange)?;
             }
         }
     }
@@ -131,7 +129,7 @@ fn sets_have_bits_1_to_8() -> Result<(), Fail> {
 }
 
 #[test]
-fn settings_have_ranges() -> Result<(), Fail> {
+fn settings_have_ranges(rt: HostRuntime) -> Result<(), Fail> {
     for reading in READINGS {
         let mut bench = Bench::new(reading);
         for (item, most) in [
@@ -145,14 +143,10 @@ fn settings_have_ranges() -> Result<(), Fail> {
         ] {
             bench.set(item, 0)?;
             bench.set(item, most)?;
-            bench
-                .set_refused(item, most.saturating_add(1), Cause::ValueOutOfRange)
-                .note(item)?;
+            bench.set_refused(&rt, item, most.saturating_add(1), Cause::ValueOutOfRange)?;
         }
         for item in [0u64, 6, 8, 226, 231, 233, 235, u64::MAX] {
-            bench
-                .set_refused(item, u64::MAX, Cause::NoSuchItem)
-                .note(item)?;
+            bench.set_refused(&rt, item, u64::MAX, Cause::NoSuchItem)?;
         }
     }
     Ok(())

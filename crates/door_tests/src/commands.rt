@@ -47,19 +47,15 @@ fn the_lowest_number_rules(rt: HostRuntime) -> Result<(), Fail> {
 }
 
 #[test]
-fn bad_numbers_are_refused() -> Result<(), Fail> {
+fn bad_numbers_are_refused(rt: HostRuntime) -> Result<(), Fail> {
     for reading in READINGS {
         let bench = Bench::new(reading);
         for priority in [0u64, 6, 17, u64::MAX] {
-            bench
-                .command_refused(priority, LOCK, Cause::NoSuchPriority)
-                .note(priority)?;
-            bench
-                .command_refused(priority, Some(9), Cause::NoSuchPriority)
-                .note(priority)?;
+            bench.command_refused(&rt, priority, LOCK, Cause::NoSuchPriority)?;
+            bench.command_refused(&rt, priority, Some(9), Cause::NoSuchPriority)?;
         }
-        bench.command_refused(1, Some(4), Cause::ValueOutOfRange)?;
-        bench.command_refused(16, Some(u64::MAX), Cause::ValueOutOfRange)?;
+        bench.command_refused(&rt, 1, Some(4), Cause::ValueOutOfRange)?;
+        bench.command_refused(&rt, 16, Some(u64::MAX), Cause::ValueOutOfRange)?;
     }
     Ok(())
 }

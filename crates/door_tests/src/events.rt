@@ -34,7 +34,7 @@ fn an_alarm_leads_to_offnormal_and_back(rt: HostRuntime) -> Result<(), Fail> {
         bench.acknowledge(0)?;
         bench.acknowledge(2)?;
         assert_eq!(rt; bench.row().events.acked.number(), 7);
-        bench.acknowledge_refused(3, Cause::ValueOutOfRange)?;
+        bench.acknowledge_refused(&rt, 3, Cause::ValueOutOfRange)?;
     }
     Ok(())
 }

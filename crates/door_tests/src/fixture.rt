@@ -3,7 +3,8 @@ use board::status::{DoorStatus, LockStatus};
 use door::door::Door;
 use door::row::Row;
 use events::event::Transition;
-use std::test::*;
+use std::process::Abort;
+use std::test::Fail;
 
 // What the lock of a door reads: one with a monitor that says locked, and one without a monitor.
 pub const READINGS: [LockStatus; 2] = [LockStatus::Locked, LockStatus::Unknown];
@@ -80,34 +81,62 @@ impl Bench {
     }
 
     // The cause for which a set call is refused.
-    pub(crate) fn set_refused(&self, item: u64, number: u64, cause: Cause) -> Result<(), Fail> {
-        refused(self.door()?.set(item, number), cause)
-    }
-
-    pub(crate) fn simulate_refused(
+    pub(crate) fn set_refused(
         &self,
+        rt: &impl Abort,
         item: u64,
         number: u64,
         cause: Cause,
     ) -> Result<(), Fail> {
-        refused(self.door()?.simulate(item, number), cause)
+        let found = cause_of(self.door()?.set(item, number));
+        assert_eq!(rt; found, Some(cause), "item {item}, number {number}");
+        Ok(())
+    }
+
+    pub(crate) fn simulate_refused(
+        &self,
+        rt: &impl Abort,
+        item: u64,
+        number: u64,
+        cause: Cause,
+    ) -> Result<(), Fail> {
+        let found = cause_of(self.door()?.simulate(item, number));
+        assert_eq!(rt; found, Some(cause), "item {item}, number {number}");
+        Ok(())
     }
 
     pub(crate) fn command_refused(
         &self,
+        rt: &impl Abort,
         priority: u64,
         value: Option<u64>,
         cause: Cause,
     ) -> Result<(), Fail> {
-        refused(self.door()?.command(priority, value), cause)
+        let found = cause_of(self.door()?.command(priority, value));
+        assert_eq!(rt; found, Some(cause), "priority {priority}");
+        Ok(())
     }
 
-    pub(crate) fn service_refused(&self, number: u64, cause: Cause) -> Result<(), Fail> {
-        refused(self.door()?.service(number), cause)
+    pub(crate) fn service_refused(
+        &self,
+        rt: &impl Abort,
+        number: u64,
+        cause: Cause,
+    ) -> Result<(), Fail> {
+        let found = cause_of(self.door()?.service(number));
+        assert_eq!(rt; found, Some(cause), "number {number}");
+        Ok(())
     }
 
-    pub(crate) fn acknowledge_refused(&self, number: u64, cause: Cause) -> Result<(), Fail> {
-        refused(self.door()?.acknowledge(number), cause)
+    pub(crate) fn acknowledge_refused(
+        &self,
+        rt: &impl Abort,
+        number: u64,
+        cause: Cause,
+    ) -> Result<(), Fail> {
+        let found = cause_of(self.door()?.acknowledge(number));
+        assert_eq!(rt; found, Some(cause), "number {number}");
+        Ok(())
     }
 
     // One tick with that contact, and the number of the transition, if there was one.
@@ -141,12 +170,10 @@ fn number_of(transition: Option<Transition>) -> Option<u8> {
     }
 }
 
-fn refused(outcome: Result<Door, Cause>, wanted: Cause) -> Result<(), Fail> {
+// The cause of a refused call, or none where the call was accepted.
+fn cause_of(outcome: Result<Door, Cause>) -> Option<Cause> {
     match outcome {
-        Ok(_) => Err(Fail::new("accepted")),
-        Err(cause) => {
-            assert_eq!(cause, wanted);
-            Ok(())
-        },
+        Ok(_) => None,
+        Err(cause) => Some(cause),
     }
 }

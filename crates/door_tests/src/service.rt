@@ -32,24 +32,25 @@ fn simulating_is_refused_in_order(rt: HostRuntime) -> Result<(), Fail> {
     for reading in READINGS {
         let mut bench = Bench::new(reading);
         bench.set(234, 16)?;
-        bench.simulate_refused(230, 0, Cause::NoSuchItem)?;
-        bench.simulate_refused(230, 99, Cause::NoSuchItem)?;
+        bench.simulate_refused(&rt, 230, 0, Cause::NoSuchItem)?;
+        bench.simulate_refused(&rt, 230, 99, Cause::NoSuchItem)?;
         for (item, number) in [(231u64, 3u64), (233, 4), (226, 9)] {
-            bench
-                .simulate_refused(item, number, Cause::ValueOutOfRange)
-                .note(item)?;
-            bench
-                .simulate_refused(item, number.saturating_sub(1), Cause::SimulateInService)
-                .note(item)?;
+            bench.simulate_refused(&rt, item, number, Cause::ValueOutOfRange)?;
+            bench.simulate_refused(
+                &rt,
+                item,
+                number.saturating_sub(1),
+                Cause::SimulateInService,
+            )?;
         }
-        bench.simulate_refused(226, 4, Cause::SimulateInService)?;
+        bench.simulate_refused(&rt, 226, 4, Cause::SimulateInService)?;
         bench.service(1)?;
-        bench.simulate_refused(226, 4, Cause::AlarmStateMasked)?;
+        bench.simulate_refused(&rt, 226, 4, Cause::AlarmStateMasked)?;
         bench.simulate(226, 8)?;
         assert_eq!(rt; bench.row().sensed.alarm_state.number(), 8);
         bench.set(234, 256)?;
         assert_eq!(rt; bench.row().sensed.alarm_state.number(), 0);
-        bench.service_refused(2, Cause::ValueOutOfRange)?;
+        bench.service_refused(&rt, 2, Cause::ValueOutOfRange)?;
     }
     Ok(())
 }

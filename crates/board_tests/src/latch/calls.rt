@@ -1,7 +1,7 @@
 ghost use Rattle.std.specs.Prelude.{◌≡◌};
 ghost use Rattle.board_tests.specs.Latch.{Latch, latch_memory, latch_held, latch_driven, latch_told, latch_fresh};
 ghost use Rattle.board_tests.specs.Latch.{drives_after, contact_after, lock_of};
-ghost use Rattle.std.proofs.Common.{rules, arith};
+ghost use Rattle.std.proofs.Common.{rules};
 
 use crate::latch::LatchBoard;
 use board::board::Board;
@@ -57,11 +57,11 @@ impl Board for LatchBoard {
 
     ghost told = { latch_told };
 
-    ghost sound = { first_of (Prim.search rules, Prim.grind (arith, Self.row.coded.inj)) };
+    ghost sound = { Prim.search rules };
 
-    ghost drives = { first_of (Prim.search rules, Prim.grind (arith, Self.row.coded.inj)) };
+    ghost drives = { Prim.search rules };
 
-    ghost tells = { first_of (Prim.search rules, Prim.grind (arith, Self.row.coded.inj)) };
+    ghost tells = { Prim.search rules };
 
     fn doors(&self) -> usize {
         2

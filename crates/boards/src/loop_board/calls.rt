@@ -1,7 +1,7 @@
 ghost use Rattle.std.specs.Prelude.{◌≡◌};
 ghost use Rattle.board.specs.Held.{Held, with_output};
 ghost use Rattle.boards.specs.Loop.{band, loop_contact, loop_reading, loop_memory, loop_told, loop_fresh};
-ghost use Rattle.std.proofs.Common.{rules, arith};
+ghost use Rattle.std.proofs.Common.{rules};
 
 use crate::loop_board::LoopBoard;
 use crate::making::doors_for;
@@ -70,11 +70,11 @@ impl Board for LoopBoard {
 
     ghost told = { loop_told };
 
-    ghost sound = { first_of (Prim.search rules, Prim.grind (arith, Self.row.coded.inj)) };
+    ghost sound = { Prim.search rules };
 
-    ghost drives = { first_of (Prim.search rules, Prim.grind (arith, Self.row.coded.inj)) };
+    ghost drives = { Prim.search rules };
 
-    ghost tells = { first_of (Prim.search rules, Prim.grind (arith, Self.row.coded.inj)) };
+    ghost tells = { Prim.search rules };
 
     fn doors(&self) -> usize {
         self.terminals.doors()

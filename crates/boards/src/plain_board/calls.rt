@@ -1,7 +1,7 @@
 ghost use Rattle.std.specs.Prelude.{◌≡◌};
 ghost use Rattle.board.specs.Held.{Held, with_output};
 ghost use Rattle.boards.specs.Plain.{plain_contact, plain_reading, plain_memory, plain_told, plain_fresh};
-ghost use Rattle.std.proofs.Common.{rules, arith};
+ghost use Rattle.std.proofs.Common.{rules};
 
 use crate::making::doors_for;
 use crate::plain_board::PlainBoard;
@@ -73,11 +73,11 @@ impl Board for PlainBoard {
 
     ghost told = { plain_told };
 
-    ghost sound = { first_of (Prim.search rules, Prim.grind (arith, Self.row.coded.inj)) };
+    ghost sound = { Prim.search rules };
 
-    ghost drives = { first_of (Prim.search rules, Prim.grind (arith, Self.row.coded.inj)) };
+    ghost drives = { Prim.search rules };
 
-    ghost tells = { first_of (Prim.search rules, Prim.grind (arith, Self.row.coded.inj)) };
+    ghost tells = { Prim.search rules };
 
     fn doors(&self) -> usize {
         self.terminals.doors()
