@@ -28,7 +28,7 @@ fn sizes_text(heap: Global, doors: usize, width: usize) -> Result<String, AllocE
 
 /// The line that tells of a new board.
 pub fn board_line<B: Board>(heap: Global, board: &B) -> Result<String, AllocError>
-    ensures { IfOk result (λ s. string_bytes s ≡ made_text (held (memory board.now))) }
+    ensures { IfOk result (λ s. string_bytes s ≡ made_text (B.held (B.memory board.now))) }
 {
     sizes_text(heap, board.doors(), board.width())
 }
@@ -39,8 +39,8 @@ fn push_door<B: Board>(
     door: usize,
     out: &mut String,
 ) -> Result<(), AllocError>
-    requires { door < (held (memory board.now)).doors }
-    ensures { OnOk result (string_bytes out.new ≡ string_bytes out.old ++ door_text (held (memory board.now)) door) }
+    requires { door < (B.held (B.memory board.now)).doors }
+    ensures { OnOk result (string_bytes out.new ≡ string_bytes out.old ++ door_text (B.held (B.memory board.now)) door) }
 {
     let output = board.output(door).unwrap().name();
     let contact = board.contact(door).unwrap().name();
@@ -51,7 +51,7 @@ fn push_door<B: Board>(
 }
 
 fn asked_line<B: Board>(heap: Global, board: &B) -> Result<String, AllocError>
-    ensures { IfOk result (λ s. string_bytes s ≡ asked_text (held (memory board.now))) }
+    ensures { IfOk result (λ s. string_bytes s ≡ asked_text (B.held (B.memory board.now))) }
 {
     let mut out = String::new(heap);
     let doors = board.doors();
@@ -65,8 +65,8 @@ fn asked_line<B: Board>(heap: Global, board: &B) -> Result<String, AllocError>
 
 /// Makes one call on a board, and answers the line that tells of it.
 pub fn answer<B: Board>(heap: Global, board: &mut B, call: &Call) -> Result<String, AllocError>
-    ensures value { IfOk result (λ s. string_bytes s ≡ call_text (held (memory board.old)) call.now) }
-    ensures after { memory board.new ≡ call_after held driven told (memory board.old) call.now }
+    ensures value { IfOk result (λ s. string_bytes s ≡ call_text (B.held (B.memory board.old)) call.now) }
+    ensures after { B.memory board.new ≡ call_after B.held B.driven B.told (B.memory board.old) call.now }
 {
     match call {
         Call::Drive(drive) => done_text(heap, board.drive(drive.output, drive.to)),
