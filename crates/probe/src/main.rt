@@ -1,11 +1,11 @@
 //! Reads a wiring list from standard input, makes its calls on boards, and prints what each board answers.
 #![tactic(auto)]
 
-use anyhow::anyhow;
 use board::board::Board;
 use boards::loop_board::LoopBoard;
 use boards::plain_board::PlainBoard;
 use std::io::Read;
+use std::process::ExitCode;
 use steady::steady::Steady;
 use wiring::list::{WiringList, read_list};
 use wiring::step::{BoardKind, Step, Wanted};
@@ -53,7 +53,7 @@ fn run(rt: &HostRuntime, steps: &[Step]) -> anyhow::Result<()> {
     Ok(())
 }
 
-fn main(rt: HostRuntime) -> anyhow::Result<()> {
+fn main(rt: HostRuntime) -> anyhow::Result<ExitCode> {
     let list = read(&rt)?;
     for wrong in list.faults.iter() {
         let line = wrong.line;
@@ -61,8 +61,9 @@ fn main(rt: HostRuntime) -> anyhow::Result<()> {
         eprintln!(rt; "line {line}: {reason}")?;
     }
     if !list.faults.is_empty() {
-        // The faults are all that is to be said: an error that `main` returns is not printed, and makes the status 1.
-        return Err(anyhow!("nothing was run"));
+        // The faults are all that is to be said: an error that `main` returns would be printed behind them.
+        return Ok(ExitCode::FAILURE);
     }
-    run(&rt, list.steps.as_slice())
+    run(&rt, list.steps.as_slice())?;
+    Ok(ExitCode::SUCCESS)
 }
