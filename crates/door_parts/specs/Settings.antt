@@ -1,5 +1,5 @@
 -- The settings of a door. Assumes nothing.
-use Rattle.std.specs.Prelude.{ℕ, ◌%◌, Bool, cond, ◌||◌, Some, None, Ok, Err, Option, Result, ◌==◌, nat_lt}
+use Rattle.std.specs.Prelude.{ℕ, ◌%◌, cond, ◌||◌, Some, None, Ok, Err, Option, Result, ◌==◌, nat_lt}
 use Rattle.board.specs.declared.refusal.Cause.{Cause}
 use Rattle.board.specs.declared.refusal.Cause.TheVariants.{ValueOutOfRange, NoSuchItem}
 use Rattle.slots.specs.declared.value.DoorValue.{DoorValue}

@@ -1,5 +1,5 @@
 -- The runs of all doors, door by door. Assumes nothing.
-use Rattle.std.proofs.Common.{◌≡◌, ℕ, ◌+◌, ◌<◌, ◌≤◌, List, length, get_or, take, drop, set, sym, refl, ap, ◌∙◌, arith}
+use Rattle.std.proofs.Common.{◌≡◌, ℕ, ◌+◌, ◌<◌, ◌≤◌, List, length, get_or, take, drop, set, sym, ap, ◌∙◌, arith}
 use Rattle.std.proofs.lemmas.List.{drop_more, drop-set-lt, length-take-le, get_or-take}
 use Rattle.board.specs.Held.{Held, each}
 use Rattle.board.specs.declared.status.DoorStatus.{DoorStatus}

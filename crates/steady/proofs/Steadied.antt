@@ -1,5 +1,5 @@
 -- The runs show the steadied contact. Assumes nothing.
-use Rattle.std.proofs.Common.{◌≡◌, ℕ, zero, suc, ◌+◌, ◌<◌, ◌≤◌, Bool, true, false, cond, ◌&&◌, eqb, ltb, leb, List, [], ◌∷◌, map, length, get_or, take, replicate, sym, refl, ap, ◌∙◌, subst, arith}
+use Rattle.std.proofs.Common.{◌≡◌, ℕ, zero, suc, ◌+◌, ◌<◌, ◌≤◌, Bool, true, false, cond, ◌&&◌, ltb, leb, List, [], ◌∷◌, length, get_or, take, replicate, sym, refl, ap, ◌∙◌, subst, arith}
 use Rattle.std.proofs.lemmas.Bool.Decides.{nat_tests}
 use Rattle.std.proofs.lemmas.List.{length-replicate, get_or-replicate, get_or-map, take-replicate}
 use Rattle.std.proofs.lemmas.List.FromFn.{length-map-range_with_len, get_or-map-range_with_len}
@@ -9,7 +9,7 @@ use Rattle.board.specs.declared.status.DoorStatus.TheVariants.{Closed, Opened, U
 use Rattle.board.specs.declared.status.Output.{Output}
 use Rattle.steady.specs.declared.run.Run.{Run}
 use Rattle.steady.specs.Run.{same_status, run_at_making, no_run, ticks_after, run_after}
-use Rattle.steady.specs.Steady.{Layer, count_for, shown_of, runs_after, steady_held, steady_driven, steady_told, steady_fresh}
+use Rattle.steady.specs.Steady.{Layer, count_for, shown_of, steady_driven, steady_told, steady_fresh}
 use Rattle.steady.specs.Law.{Move, after, gave, last_all, steadied, Steadies}
 use Rattle.steady.proofs.Runs.{layer}
 use Rattle.steady.specs.Law.Move.{drove, ticked}

@@ -1,4 +1,4 @@
-use Rattle.std.proofs.Common.{◌≡◌, ◌+◌, ◌*◌, ◌<◌, ◌≤◌, length, get_or, ap, ◌∙◌, arith}
+use Rattle.std.proofs.Common.{◌+◌, ◌*◌, ◌<◌, length, get_or, ap, ◌∙◌, arith}
 use Rattle.board.proofs.Filled.{filled_more}
 use Rattle.boards.specs.Loop.{band, loop_contact, loop_reading}
 use Rattle.boards.proofs.loop_board.calls.LoopBoardBoard.tick.Goals as goal

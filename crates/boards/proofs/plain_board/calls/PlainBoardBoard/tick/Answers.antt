@@ -1,4 +1,4 @@
-use Rattle.std.proofs.Common.{◌≡◌, ◌<◌, ◌≤◌, length, get_or, ap, ◌∙◌, arith}
+use Rattle.std.proofs.Common.{◌<◌, length, get_or, ◌∙◌, arith}
 use Rattle.board.proofs.Filled.{filled_more}
 use Rattle.boards.specs.Plain.{plain_contact, plain_reading}
 use Rattle.boards.proofs.plain_board.calls.PlainBoardBoard.tick.Goals as goal

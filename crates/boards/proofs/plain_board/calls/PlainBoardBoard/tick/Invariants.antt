@@ -1,4 +1,4 @@
-use Rattle.std.proofs.Common.{◌≡◌, ◌+◌, ◌*◌, get_or, take}
+use Rattle.std.proofs.Common.{◌≡◌, get_or, take}
 use Rattle.board.specs.Held.{each}
 use Rattle.boards.specs.Plain.{plain_contact, plain_reading}
 use Rattle.boards.proofs.plain_board.calls.PlainBoardBoard.tick.Given as goal
