@@ -1,7 +1,7 @@
 -- What an accepted call on a board comes to. Assumes nothing.
-use Rattle.std.proofs.Common.{◌≡◌, ℕ, ◌<◌, ◌≤◌, Bool, true, false, cond, eqb, List, length, get_or, Ok, Err, Result, sym, refl, ap, ◌∙◌, arith, lt-ltb, le-leb}
+use Rattle.std.proofs.Common.{◌≡◌, ℕ, ◌<◌, ◌≤◌, Bool, true, false, cond, eqb, List, length, get_or, Ok, Err, refl, ◌∙◌, arith, lt-ltb, le-leb}
 use Rattle.std.proofs.lemmas.Bool.{cond-true}
-use Rattle.board.specs.Held.{Held, output_answer, contact_answer, reading_answer, drive_answer, tick_answer, if_driven, if_told}
+use Rattle.board.specs.Held.{Held, output_answer, contact_answer, reading_answer, tick_answer, if_driven, if_told}
 use Rattle.board.specs.declared.status.DoorStatus.{DoorStatus}
 use Rattle.board.specs.declared.status.DoorStatus.TheVariants.{Closed}
 use Rattle.board.specs.declared.status.LockStatus.{LockStatus}

@@ -1,5 +1,5 @@
 -- What a door does keeps its record legal. Assumes nothing.
-use Rattle.std.proofs.Common.{◌≡◌, ℕ, zero, suc, ◌-◌, ◌≤◌, Bool, true, false, cond, not, ◌&&◌, ◌||◌, eqb, ltb, leb, List, [], ◌∷◌, map, set, Some, None, Ok, Err, Option, Result, sym, refl, ap, ◌∙◌, arith}
+use Rattle.std.proofs.Common.{◌≡◌, ℕ, zero, suc, ◌-◌, Bool, true, false, cond, not, ◌||◌, eqb, ltb, leb, List, [], ◌∷◌, map, set, Some, None, Ok, Err, Option, Result, sym, refl, ap, ◌∙◌, arith}
 use Rattle.std.proofs.lemmas.Bool.{and_parts, and_from}
 use Rattle.std.proofs.lemmas.Bool.Decides.{nat_tests}
 use Rattle.slots.specs.declared.value.DoorValue.{DoorValue}
@@ -11,8 +11,6 @@ use Rattle.board.specs.declared.refusal.Cause.{Cause}
 use Rattle.board.specs.declared.refusal.Cause.TheVariants.{ValueOutOfRange, SimulateInService, AlarmStateMasked}
 use Rattle.board.specs.declared.status.DoorStatus.{DoorStatus}
 use Rattle.board.specs.declared.status.LockStatus.{LockStatus}
-use Rattle.events.specs.declared.alarm.AlarmState.{AlarmState}
-use Rattle.door_parts.specs.declared.commanded.Commanded.{Commanded}
 use Rattle.door_parts.specs.declared.settings.Item.{Item}
 use Rattle.door_parts.specs.declared.settings.Item.TheVariants.{AlarmValues, EventEnable, FaultValues, RelinquishDefault, TimeDelay, DoorExtendedPulseTime, DoorOpenTooLongTime, DoorPulseTime, DoorUnlockDelayTime, MaskedAlarmValues}
 use Rattle.door_parts.specs.declared.settings.Settings.{Settings}

@@ -10,7 +10,7 @@ use Rattle.events.specs.declared.event.EventState.{EventState}
 use Rattle.events.specs.declared.event.EventState.TheVariants.{Normal, Fault, Offnormal}
 use Rattle.events.specs.Alarm.{alarm_number, in-set}
 use Rattle.events.specs.Event.{bit_number}
-use Rattle.door_parts.specs.Sensed.{is_opened, is_fault}
+use Rattle.door_parts.specs.Sensed.{is_opened}
 use Rattle.door.specs.declared.row.Row.{Row}
 use Rattle.door.specs.declared.shown.Reliability.{Reliability}
 use Rattle.door.specs.declared.shown.Reliability.TheVariants.{NoFaultDetected, MultiStateFault}

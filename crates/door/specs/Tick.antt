@@ -1,5 +1,5 @@
 -- A tick of one door, step by step. Assumes nothing.
-use Rattle.std.specs.Prelude.{ℕ, ◌+◌, Bool, cond, Ok, Err, Option, Result, nat_le}
+use Rattle.std.specs.Prelude.{ℕ, ◌+◌, cond, Ok, Err, Option, Result, nat_le}
 use Rattle.board.specs.declared.refusal.Cause.{Cause}
 use Rattle.board.specs.declared.refusal.Cause.TheVariants.{LastTenth}
 use Rattle.board.specs.declared.status.DoorStatus.{DoorStatus}

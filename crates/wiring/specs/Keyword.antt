@@ -1,5 +1,5 @@
 -- The words of a wiring list that are no numbers or bytes. Assumes nothing.
-use Rattle.std.specs.Prelude.{ℕ, Bool, cond, List, Some, None, codes, Option}
+use Rattle.std.specs.Prelude.{ℕ, cond, List, Some, None, codes, Option}
 use Rattle.std.specs.Str.{bytes_eq}
 use Rattle.wiring.specs.declared.keyword.Keyword.{Keyword}
 use Rattle.wiring.specs.declared.keyword.Keyword.TheVariants.{Board, Steady, Plain, Loop, Drive, Held, Released, Tick, Ask}

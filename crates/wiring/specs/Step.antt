@@ -1,5 +1,5 @@
 -- What the words of a line say. Assumes nothing.
-use Rattle.std.specs.Prelude.{ℕ, Bool, cond, List, [], ◌∷◌, Some, None, Ok, Err, vec_items, Option, Result, Vec, nat_lt}
+use Rattle.std.specs.Prelude.{ℕ, cond, List, [], ◌∷◌, Some, None, Ok, Err, vec_items, Option, Result, Vec, nat_lt}
 use Rattle.board.specs.declared.status.Output.{Output}
 use Rattle.board.specs.declared.status.Output.TheVariants as output
 use Rattle.numeral.specs.Decimal.{decimal_answer}
@@ -17,7 +17,6 @@ use Rattle.wiring.specs.declared.step.BoardKind.{BoardKind}
 use Rattle.wiring.specs.declared.step.BoardKind.TheVariants as board
 use Rattle.wiring.specs.declared.step.Wanted.{Wanted}
 use Rattle.wiring.specs.declared.step.Drive.{Drive}
-use Rattle.wiring.specs.declared.step.Call.{Call}
 use Rattle.wiring.specs.declared.step.Call.TheVariants as call
 use Rattle.wiring.specs.declared.step.Step.{Step}
 use Rattle.wiring.specs.declared.step.Step.TheVariants as step

@@ -1,4 +1,4 @@
-use Rattle.std.proofs.Common.{◌≡◌, ◌+◌, ◌≤◌, false, ◌++◌, map, length, vec_items, sym, ap, ◌∙◌, arith}
+use Rattle.std.proofs.Common.{◌≡◌, ◌+◌, false, ◌++◌, map, length, vec_items, sym, ap, ◌∙◌, arith}
 use Rattle.text.specs.Lines.{lines, lines_left}
 use Rattle.wiring.specs.Step.{said}
 use Rattle.wiring.specs.List.{steps_in, faults_in, started_after, steps_of, faults_of}
