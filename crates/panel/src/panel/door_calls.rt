@@ -24,8 +24,8 @@ pub(crate) fn refused(place: usize, cause: Cause) -> Refusal
 
 /// Drives the output of a door as its row says, in service.
 pub(crate) fn drive_door<B: Board>(board: &mut B, door: usize, row: &Row)
-    requires { door < (held (memory board.old)).doors }
-    ensures { memory board.new ≡ drives_door driven (memory board.old) door row.now }
+    requires { door < (B.held (B.memory board.old)).doors }
+    ensures { B.memory board.new ≡ drives_door B.driven (B.memory board.old) door row.now }
 {
     if !row.out_of_service {
         board.drive(door, row.commanded.output).unwrap();
@@ -34,32 +34,32 @@ pub(crate) fn drive_door<B: Board>(board: &mut B, door: usize, row: &Row)
 
 impl<B: Board> Panel<B> {
     fn has_door(&self, door: usize) -> bool
-        ensures { result ≡ nat_lt door (held (memory self.now.board)).doors }
+        ensures { result ≡ nat_lt door (B.held (B.memory self.now.board)).doors }
     {
         door < self.board.doors()
     }
 
     /// The row of a door, which makes a door.
     fn row_at(&self, door: usize) -> Row
-        requires { door < (held (memory self.now.board)).doors }
-        ensures value { result ≡ row_at (view held memory self.now) door }
+        requires { door < (B.held (B.memory self.now.board)).doors }
+        ensures value { result ≡ row_at (view B.held B.memory self.now) door }
         ensures kept { kept self.now.tenth result ≡ true }
     {
         self.rows[door]
     }
 
     pub(crate) fn door_at(&self, door: usize) -> Door
-        requires { door < (held (memory self.now.board)).doors }
-        ensures { result.row ≡ row_at (view held memory self.now) door }
+        requires { door < (B.held (B.memory self.now.board)).doors }
+        ensures { result.row ≡ row_at (view B.held B.memory self.now) door }
     {
         Door::from_row(self.row_at(door)).unwrap()
     }
 
     /// Stores the row of a door, and drives its output.
     pub(crate) fn put(&mut self, door: usize, row: Row)
-        requires { (door < (held (memory self.old.board)).doors) × (kept self.old.tenth row ≡ true) }
-        ensures after { view held memory self.new ≡ with_row (view held memory self.old) door row }
-        ensures memory { memory self.new.board ≡ drives_door driven (memory self.old.board) door row }
+        requires { (door < (B.held (B.memory self.old.board)).doors) × (kept self.old.tenth row ≡ true) }
+        ensures after { view B.held B.memory self.new ≡ with_row (view B.held B.memory self.old) door row }
+        ensures memory { B.memory self.new.board ≡ drives_door B.driven (B.memory self.old.board) door row }
     {
         self.rows[door] = row;
         drive_door(&mut self.board, door, &row);
@@ -67,10 +67,10 @@ impl<B: Board> Panel<B> {
 
     /// Stores what a call made of a door, or refuses with its cause.
     fn finish(&mut self, door: usize, made: Result<Door, Cause>) -> Result<(), Refusal>
-        requires { (door < (held (memory self.old.board)).doors) × (made_kept self.old.tenth (row_of made)) }
+        requires { (door < (B.held (B.memory self.old.board)).doors) × (made_kept self.old.tenth (row_of made)) }
         ensures value { result ≡ outcome door (row_of made) }
-        ensures after { view held memory self.new ≡ stored (view held memory self.old) door (row_of made) }
-        ensures memory { memory self.new.board ≡ stored_memory driven (memory self.old.board) door (row_of made) }
+        ensures after { view B.held B.memory self.new ≡ stored (view B.held B.memory self.old) door (row_of made) }
+        ensures memory { B.memory self.new.board ≡ stored_memory B.driven (B.memory self.old.board) door (row_of made) }
     {
         match made {
             Ok(changed) => {
@@ -82,17 +82,17 @@ impl<B: Board> Panel<B> {
     }
 
     fn command_at(&self, door: usize, priority: u64, value: Option<u64>) -> Result<Door, Cause>
-        requires { door < (held (memory self.now.board)).doors }
-        ensures { row_of result ≡ commanded (view held memory self.now) door priority value }
+        requires { door < (B.held (B.memory self.now.board)).doors }
+        ensures { row_of result ≡ commanded (view B.held B.memory self.now) door priority value }
     {
         self.door_at(door).command(priority, value)
     }
 
     /// Writes a value, or NULL, at a priority of a door.
     pub fn command(&mut self, door: usize, priority: u64, value: Option<u64>) -> Result<(), Refusal>
-        ensures value { result ≡ call_answer (view held memory self.old) door (commanded (view held memory self.old) door priority value) }
-        ensures after { view held memory self.new ≡ call_after (view held memory self.old) door (commanded (view held memory self.old) door priority value) }
-        ensures memory { memory self.new.board ≡ call_memory driven (view held memory self.old) door (commanded (view held memory self.old) door priority value) (memory self.old.board) }
+        ensures value { result ≡ call_answer (view B.held B.memory self.old) door (commanded (view B.held B.memory self.old) door priority value) }
+        ensures after { view B.held B.memory self.new ≡ call_after (view B.held B.memory self.old) door (commanded (view B.held B.memory self.old) door priority value) }
+        ensures memory { B.memory self.new.board ≡ call_memory B.driven (view B.held B.memory self.old) door (commanded (view B.held B.memory self.old) door priority value) (B.memory self.old.board) }
     {
         if !self.has_door(door) {
             return Err(refused(door, Cause::NoSuchDoor));
@@ -102,17 +102,17 @@ impl<B: Board> Panel<B> {
     }
 
     fn set_at(&self, door: usize, item: u64, number: u64) -> Result<Door, Cause>
-        requires { door < (held (memory self.now.board)).doors }
-        ensures { row_of result ≡ set_to (view held memory self.now) door item number }
+        requires { door < (B.held (B.memory self.now.board)).doors }
+        ensures { row_of result ≡ set_to (view B.held B.memory self.now) door item number }
     {
         self.door_at(door).set(item, number)
     }
 
     /// Sets an item of a door.
     pub fn set(&mut self, door: usize, item: u64, number: u64) -> Result<(), Refusal>
-        ensures value { result ≡ call_answer (view held memory self.old) door (set_to (view held memory self.old) door item number) }
-        ensures after { view held memory self.new ≡ call_after (view held memory self.old) door (set_to (view held memory self.old) door item number) }
-        ensures memory { memory self.new.board ≡ call_memory driven (view held memory self.old) door (set_to (view held memory self.old) door item number) (memory self.old.board) }
+        ensures value { result ≡ call_answer (view B.held B.memory self.old) door (set_to (view B.held B.memory self.old) door item number) }
+        ensures after { view B.held B.memory self.new ≡ call_after (view B.held B.memory self.old) door (set_to (view B.held B.memory self.old) door item number) }
+        ensures memory { B.memory self.new.board ≡ call_memory B.driven (view B.held B.memory self.old) door (set_to (view B.held B.memory self.old) door item number) (B.memory self.old.board) }
     {
         if !self.has_door(door) {
             return Err(refused(door, Cause::NoSuchDoor));
@@ -122,17 +122,17 @@ impl<B: Board> Panel<B> {
     }
 
     fn simulate_at(&self, door: usize, item: u64, number: u64) -> Result<Door, Cause>
-        requires { door < (held (memory self.now.board)).doors }
-        ensures { row_of result ≡ simulated (view held memory self.now) door item number }
+        requires { door < (B.held (B.memory self.now.board)).doors }
+        ensures { row_of result ≡ simulated (view B.held B.memory self.now) door item number }
     {
         self.door_at(door).simulate(item, number)
     }
 
     /// Writes what is sensed of a door that is out of service.
     pub fn simulate(&mut self, door: usize, item: u64, number: u64) -> Result<(), Refusal>
-        ensures value { result ≡ call_answer (view held memory self.old) door (simulated (view held memory self.old) door item number) }
-        ensures after { view held memory self.new ≡ call_after (view held memory self.old) door (simulated (view held memory self.old) door item number) }
-        ensures memory { memory self.new.board ≡ call_memory driven (view held memory self.old) door (simulated (view held memory self.old) door item number) (memory self.old.board) }
+        ensures value { result ≡ call_answer (view B.held B.memory self.old) door (simulated (view B.held B.memory self.old) door item number) }
+        ensures after { view B.held B.memory self.new ≡ call_after (view B.held B.memory self.old) door (simulated (view B.held B.memory self.old) door item number) }
+        ensures memory { B.memory self.new.board ≡ call_memory B.driven (view B.held B.memory self.old) door (simulated (view B.held B.memory self.old) door item number) (B.memory self.old.board) }
     {
         if !self.has_door(door) {
             return Err(refused(door, Cause::NoSuchDoor));
@@ -142,17 +142,17 @@ impl<B: Board> Panel<B> {
     }
 
     fn service_at(&self, door: usize, number: u64) -> Result<Door, Cause>
-        requires { door < (held (memory self.now.board)).doors }
-        ensures { row_of result ≡ serviced (view held memory self.now) door number }
+        requires { door < (B.held (B.memory self.now.board)).doors }
+        ensures { row_of result ≡ serviced (view B.held B.memory self.now) door number }
     {
         self.door_at(door).service(number)
     }
 
     /// Takes a door out of service (1) or into it (0).
     pub fn service(&mut self, door: usize, number: u64) -> Result<(), Refusal>
-        ensures value { result ≡ call_answer (view held memory self.old) door (serviced (view held memory self.old) door number) }
-        ensures after { view held memory self.new ≡ call_after (view held memory self.old) door (serviced (view held memory self.old) door number) }
-        ensures memory { memory self.new.board ≡ call_memory driven (view held memory self.old) door (serviced (view held memory self.old) door number) (memory self.old.board) }
+        ensures value { result ≡ call_answer (view B.held B.memory self.old) door (serviced (view B.held B.memory self.old) door number) }
+        ensures after { view B.held B.memory self.new ≡ call_after (view B.held B.memory self.old) door (serviced (view B.held B.memory self.old) door number) }
+        ensures memory { B.memory self.new.board ≡ call_memory B.driven (view B.held B.memory self.old) door (serviced (view B.held B.memory self.old) door number) (B.memory self.old.board) }
     {
         if !self.has_door(door) {
             return Err(refused(door, Cause::NoSuchDoor));
@@ -162,17 +162,17 @@ impl<B: Board> Panel<B> {
     }
 
     fn acknowledge_at(&self, door: usize, number: u64) -> Result<Door, Cause>
-        requires { door < (held (memory self.now.board)).doors }
-        ensures { row_of result ≡ acknowledged (view held memory self.now) door number }
+        requires { door < (B.held (B.memory self.now.board)).doors }
+        ensures { row_of result ≡ acknowledged (view B.held B.memory self.now) door number }
     {
         self.door_at(door).acknowledge(number)
     }
 
     /// Acknowledges a transition of a door.
     pub fn acknowledge(&mut self, door: usize, number: u64) -> Result<(), Refusal>
-        ensures value { result ≡ call_answer (view held memory self.old) door (acknowledged (view held memory self.old) door number) }
-        ensures after { view held memory self.new ≡ call_after (view held memory self.old) door (acknowledged (view held memory self.old) door number) }
-        ensures memory { memory self.new.board ≡ call_memory driven (view held memory self.old) door (acknowledged (view held memory self.old) door number) (memory self.old.board) }
+        ensures value { result ≡ call_answer (view B.held B.memory self.old) door (acknowledged (view B.held B.memory self.old) door number) }
+        ensures after { view B.held B.memory self.new ≡ call_after (view B.held B.memory self.old) door (acknowledged (view B.held B.memory self.old) door number) }
+        ensures memory { B.memory self.new.board ≡ call_memory B.driven (view B.held B.memory self.old) door (acknowledged (view B.held B.memory self.old) door number) (B.memory self.old.board) }
     {
         if !self.has_door(door) {
             return Err(refused(door, Cause::NoSuchDoor));

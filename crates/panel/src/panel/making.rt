@@ -11,8 +11,8 @@ use notices::waiting::Waiting;
 use slots::sounder::Sounder;
 
 fn hold<B: Board>(board: &mut B, output: usize)
-    requires { output ≤ (held (memory board.old)).doors }
-    ensures { memory board.new ≡ driven (memory board.old) output Held }
+    requires { output ≤ (B.held (B.memory board.old)).doors }
+    ensures { B.memory board.new ≡ B.driven (B.memory board.old) output Held }
 {
     board.drive(output, Output::Held).unwrap();
 }
@@ -20,8 +20,8 @@ fn hold<B: Board>(board: &mut B, output: usize)
 impl<B: Board> Panel<B> {
     /// A panel over this board, whatever the board had: every output is driven to held.
     pub fn new(board: B, number: u32, tenth: u32) -> Panel<B>
-        ensures value { view held memory result ≡ fresh_view (held (memory board)) number tenth }
-        ensures memory { memory result.board ≡ all_driven driven ((held (memory board)).doors + 1) (memory board) }
+        ensures value { view B.held B.memory result ≡ fresh_view (B.held (B.memory board)) number tenth }
+        ensures memory { B.memory result.board ≡ all_driven B.driven ((B.held (B.memory board)).doors + 1) (B.memory board) }
     {
         let mut board = board;
         for output in 0..board.doors() + 1 {

@@ -24,8 +24,8 @@ fn notice_of(serial: u64, door: usize, row: &Row, transition: Transition) -> Not
 impl<B: Board> Panel<B> {
     /// A notice waits, and the next has the next serial.
     fn keep(&mut self, notice: Notice)
-        requires { (notice.door < (held (memory self.old.board)).doors) × (self.old.next_serial ≤ 64 * self.old.tenth) }
-        ensures after { view held memory self.new ≡ with_notices (view held memory self.old) (raised (view held memory self.old).notices notice) }
+        requires { (notice.door < (B.held (B.memory self.old.board)).doors) × (self.old.next_serial ≤ 64 * self.old.tenth) }
+        ensures after { view B.held B.memory self.new ≡ with_notices (view B.held B.memory self.old) (raised (view B.held B.memory self.old).notices notice) }
         ensures board { self.new.board ≡ self.old.board }
     {
         let waiting = self.waiting[notice.door];
@@ -35,8 +35,8 @@ impl<B: Board> Panel<B> {
 
     /// Raises the notice of a transition of a door that led to this row, where the transition is enabled.
     pub(crate) fn raise(&mut self, door: usize, row: &Row, transition: Option<Transition>)
-        requires { (door < (held (memory self.old.board)).doors) × (self.old.next_serial ≤ 64 * self.old.tenth) }
-        ensures after { view held memory self.new ≡ with_notices (view held memory self.old) (raised_by (view held memory self.old).notices door row.now transition) }
+        requires { (door < (B.held (B.memory self.old.board)).doors) × (self.old.next_serial ≤ 64 * self.old.tenth) }
+        ensures after { view B.held B.memory self.new ≡ with_notices (view B.held B.memory self.old) (raised_by (view B.held B.memory self.old).notices door row.now transition) }
         ensures board { self.new.board ≡ self.old.board }
     {
         let Some(known) = transition else {

@@ -13,7 +13,7 @@ use report::write::write_report;
 impl<B: Board> Panel<B> {
     /// What a report tells of each door now.
     fn rows_now(&self) -> [ReportRow; 64]
-        ensures value { take (held (memory self.now.board)).doors result ≡ rows_now (view held memory self.now) }
+        ensures value { take (B.held (B.memory self.now.board)).doors result ≡ rows_now (view B.held B.memory self.now) }
         ensures len { length result ≡ 64 }
     {
         let mut rows = [Row::at_making().report_row(); 64];
@@ -26,10 +26,10 @@ impl<B: Board> Panel<B> {
     /// Writes a report of what has changed into the buffer, and remembers the rows as reported; a refused one is as if it had not
     /// been asked for.
     pub fn report(&mut self, buffer: &mut [u8]) -> Result<usize, Refusal>
-        ensures value { result ≡ panel_report (view held memory self.old) buffer.old }
-        ensures buffer { buffer.new ≡ panel_buffer (view held memory self.old) buffer.old }
-        ensures after { view held memory self.new ≡ report_after (view held memory self.old) buffer.old }
-        ensures memory { memory self.new.board ≡ memory self.old.board }
+        ensures value { result ≡ panel_report (view B.held B.memory self.old) buffer.old }
+        ensures buffer { buffer.new ≡ panel_buffer (view B.held B.memory self.old) buffer.old }
+        ensures after { view B.held B.memory self.new ≡ report_after (view B.held B.memory self.old) buffer.old }
+        ensures memory { B.memory self.new.board ≡ B.memory self.old.board }
     {
         let rows = self.rows_now();
         let doors = self.board.doors();

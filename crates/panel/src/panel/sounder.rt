@@ -21,7 +21,7 @@ fn output_for(value: SounderValue) -> Output
 
 /// Drives the output behind those of the doors to the value that rules the sounder.
 fn drive_sounder<B: Board>(board: &mut B, sounder: &Sounder)
-    ensures { memory board.new ≡ driven (memory board.old) (held (memory board.old)).doors (sounder_output (sounder_present sounder.now)) }
+    ensures { B.memory board.new ≡ B.driven (B.memory board.old) (B.held (B.memory board.old)).doors (sounder_output (sounder_present sounder.now)) }
 {
     let doors = board.doors();
     board.drive(doors, output_for(sounder.present())).unwrap();
@@ -29,8 +29,8 @@ fn drive_sounder<B: Board>(board: &mut B, sounder: &Sounder)
 
 impl<B: Board> Panel<B> {
     fn put_sounder(&mut self, sounder: Sounder)
-        ensures after { view held memory self.new ≡ with_sounder (view held memory self.old) sounder }
-        ensures memory { memory self.new.board ≡ driven (memory self.old.board) (held (memory self.old.board)).doors (sounder_output (sounder_present sounder)) }
+        ensures after { view B.held B.memory self.new ≡ with_sounder (view B.held B.memory self.old) sounder }
+        ensures memory { B.memory self.new.board ≡ B.driven (B.memory self.old.board) (B.held (B.memory self.old.board)).doors (sounder_output (sounder_present sounder)) }
     {
         self.sounder = sounder;
         drive_sounder(&mut self.board, &sounder);
@@ -38,9 +38,9 @@ impl<B: Board> Panel<B> {
 
     /// Writes a value, or NULL, at a priority of the sounder.
     pub fn write_sounder(&mut self, priority: u64, value: Option<u64>) -> Result<(), Refusal>
-        ensures value { result ≡ sounder_outcome (view held memory self.old) (written (view held memory self.old) priority value) }
-        ensures after { view held memory self.new ≡ sounder_after (view held memory self.old) (written (view held memory self.old) priority value) }
-        ensures memory { memory self.new.board ≡ sounder_memory driven (view held memory self.old) (written (view held memory self.old) priority value) (memory self.old.board) }
+        ensures value { result ≡ sounder_outcome (view B.held B.memory self.old) (written (view B.held B.memory self.old) priority value) }
+        ensures after { view B.held B.memory self.new ≡ sounder_after (view B.held B.memory self.old) (written (view B.held B.memory self.old) priority value) }
+        ensures memory { B.memory self.new.board ≡ sounder_memory B.driven (view B.held B.memory self.old) (written (view B.held B.memory self.old) priority value) (B.memory self.old.board) }
     {
         match self.sounder.command(priority, value) {
             Ok(sounder) => {

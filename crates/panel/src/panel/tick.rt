@@ -13,8 +13,8 @@ use door::door::Ticked;
 impl<B: Board> Panel<B> {
     /// What a tick makes of a door, by what the board now says of it.
     fn tick_door(&self, door: usize) -> Ticked
-        requires { (door < (held (memory self.now.board)).doors) × ((row_at (view held memory self.now) door).released_tenths < 2000000000) }
-        ensures { ticked_door result ≡ door_ticked (view held memory self.now) door }
+        requires { (door < (B.held (B.memory self.now.board)).doors) × ((row_at (view B.held B.memory self.now) door).released_tenths < 2000000000) }
+        ensures { ticked_door result ≡ door_ticked (view B.held B.memory self.now) door }
     {
         let contact = self.board.contact(door).unwrap();
         let reading = self.board.reading(door).unwrap();
@@ -25,9 +25,9 @@ impl<B: Board> Panel<B> {
 
     /// The tick of one door: its row and its output follow, and an enabled transition raises a notice.
     fn step_door(&mut self, door: usize)
-        requires { (door < (held (memory self.old.board)).doors) × (((row_at (view held memory self.old) door).released_tenths < self.old.tenth) × ((self.old.tenth ≤ 2000000000) × (self.old.next_serial ≤ 64 * self.old.tenth))) }
-        ensures after { view held memory self.new ≡ door_stepped (view held memory self.old) door }
-        ensures memory { memory self.new.board ≡ drives_door driven (memory self.old.board) door (door_ticked (view held memory self.old) door).row }
+        requires { (door < (B.held (B.memory self.old.board)).doors) × (((row_at (view B.held B.memory self.old) door).released_tenths < self.old.tenth) × ((self.old.tenth ≤ 2000000000) × (self.old.next_serial ≤ 64 * self.old.tenth))) }
+        ensures after { view B.held B.memory self.new ≡ door_stepped (view B.held B.memory self.old) door }
+        ensures memory { B.memory self.new.board ≡ drives_door B.driven (B.memory self.old.board) door (door_ticked (view B.held B.memory self.old) door).row }
     {
         let ticked = self.tick_door(door);
         let transition = ticked.transition;
@@ -38,16 +38,16 @@ impl<B: Board> Panel<B> {
 
     /// Whether a tick of the right length comes too late.
     fn is_late(&self, bytes: &[u8]) -> bool
-        ensures { result ≡ is_late (view held memory self.now) bytes.now }
+        ensures { result ≡ is_late (view B.held B.memory self.now) bytes.now }
     {
         bytes.len() == self.board.width() && self.tenth >= 2_000_000_000
     }
 
     /// Gives the board its bytes and counts the tenth. A wrong length is the board's own refusal.
     fn begin(&mut self, bytes: &[u8]) -> Result<(), Refusal>
-        ensures value { result ≡ tick_answer (view held memory self.old) bytes.now }
-        ensures after { view held memory self.new ≡ begun_if (view held memory self.old) (held (told (memory self.old.board) bytes.now)).inputs bytes.now }
-        ensures memory { memory self.new.board ≡ told_if (view held memory self.old) bytes.now (told (memory self.old.board) bytes.now) (memory self.old.board) }
+        ensures value { result ≡ tick_answer (view B.held B.memory self.old) bytes.now }
+        ensures after { view B.held B.memory self.new ≡ begun_if (view B.held B.memory self.old) (B.held (B.told (B.memory self.old.board) bytes.now)).inputs bytes.now }
+        ensures memory { B.memory self.new.board ≡ told_if (view B.held B.memory self.old) bytes.now (B.told (B.memory self.old.board) bytes.now) (B.memory self.old.board) }
     {
         if self.is_late(bytes) {
             return Err(refused(0, Cause::LastTenth));
@@ -59,9 +59,9 @@ impl<B: Board> Panel<B> {
 
     /// The doors of a tick that has begun, in rising number.
     fn step_doors(&mut self)
-        requires { Room (view held memory self.old) }
-        ensures after { view held memory self.new ≡ doors_stepped (doors_of (view held memory self.old)) (view held memory self.old) }
-        ensures memory { memory self.new.board ≡ doors_driven driven (doors_of (view held memory self.old)) (view held memory self.old) (memory self.old.board) }
+        requires { Room (view B.held B.memory self.old) }
+        ensures after { view B.held B.memory self.new ≡ doors_stepped (doors_of (view B.held B.memory self.old)) (view B.held B.memory self.old) }
+        ensures memory { B.memory self.new.board ≡ doors_driven B.driven (doors_of (view B.held B.memory self.old)) (view B.held B.memory self.old) (B.memory self.old.board) }
     {
         for door in 0..self.board.doors() {
             self.step_door(door);
@@ -70,9 +70,9 @@ impl<B: Board> Panel<B> {
 
     /// One tick of a tenth: the board is given its bytes, and then the doors follow.
     pub fn tick(&mut self, bytes: &[u8]) -> Result<(), Refusal>
-        ensures value { result ≡ tick_answer (view held memory self.old) bytes.now }
-        ensures after { view held memory self.new ≡ tick_after (view held memory self.old) (held (told (memory self.old.board) bytes.now)).inputs bytes.now }
-        ensures memory { memory self.new.board ≡ tick_memory driven (view held memory self.old) (held (told (memory self.old.board) bytes.now)).inputs bytes.now (told (memory self.old.board) bytes.now) (memory self.old.board) }
+        ensures value { result ≡ tick_answer (view B.held B.memory self.old) bytes.now }
+        ensures after { view B.held B.memory self.new ≡ tick_after (view B.held B.memory self.old) (B.held (B.told (B.memory self.old.board) bytes.now)).inputs bytes.now }
+        ensures memory { B.memory self.new.board ≡ tick_memory B.driven (view B.held B.memory self.old) (B.held (B.told (B.memory self.old.board) bytes.now)).inputs bytes.now (B.told (B.memory self.old.board) bytes.now) (B.memory self.old.board) }
     {
         match self.begin(bytes) {
             Ok(()) => {

@@ -22,7 +22,7 @@ loop-output-preserved g c =
     (held_more i (held (memory c.args.board)) (held (memory b)) _ c.loop-output.invariant.0 h, driven_more g.B.Board.driven i (memory c.args.board) (memory b) _ c.loop-output.invariant.1 m)
 
 pub invariant_of-result : goal.invariant_of-result
-invariant_of-result g c = (refl, (refl, (refl, (kept_fresh c.args.tenth 64 c.at_making.result c.at_making.ensures, omega arith))))
+invariant_of-result g c = record { table = refl; queue = refl; memo = refl; kept = kept_fresh c.args.tenth 64 c.at_making.result c.at_making.ensures; serials = omega arith }
 
 pub returns : goal.returns
 returns g c =

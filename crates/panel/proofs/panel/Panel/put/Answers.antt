@@ -6,7 +6,13 @@ use Rattle.panel.proofs.panel.Panel.put.Goals as goal
 pub invariant_of-self : goal.invariant_of-self
 invariant_of-self g c =
     let p = c.args.self.now in
-    (simp length-set p.table, (p.queue, (p.memo, (kept_set p.tenth p.rows c.args.door c.args.row c.requires.1 p.kept, (p.serials, tt)))))
+    record {
+      table = simp length-set p.table;
+      queue = p.queue;
+      memo = p.memo;
+      kept = kept_set p.tenth p.rows c.args.door c.args.row c.requires.1 p.kept;
+      serials = p.serials;
+    }
 
 pub returns : goal.returns
 returns g c =
