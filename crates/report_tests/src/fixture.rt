@@ -230,7 +230,7 @@ pub(crate) fn same_rows(
 ) -> Result<(), Fail> {
     assert!(rt; mirror.len() == rows.len());
     for door in 0..rows.len() {
-        same_row(rt, &mirror[door], &rows[door]).note(door)?;
+        same_row(rt, &mirror[door], &rows[door])?;
     }
     Ok(())
 }

@@ -38,10 +38,10 @@ fn one_door(rt: HostRuntime) -> Result<(), Fail> {
     goes_round(&rt, &mut [LEAST], &[MOST], 1)?;
     goes_round(&rt, &mut [MOST], &[LEAST], 1)?;
     goes_round(&rt, &mut [MADE], &[MOST], 1)?;
-    for (field, edge) in EDGES.iter().enumerate() {
-        goes_round(&rt, &mut [LEAST], &[edge.row], 1).note(field)?;
-        goes_round(&rt, &mut [edge.row], &[LEAST], 1).note(field)?;
-        goes_round(&rt, &mut [MOST], &[edge.row], 1).note(field)?;
+    for edge in EDGES.iter() {
+        goes_round(&rt, &mut [LEAST], &[edge.row], 1)?;
+        goes_round(&rt, &mut [edge.row], &[LEAST], 1)?;
+        goes_round(&rt, &mut [MOST], &[edge.row], 1)?;
     }
     Ok(())
 }
@@ -52,16 +52,15 @@ fn three_doors(rt: HostRuntime) -> Result<(), Fail> {
     goes_round(&rt, &mut [MADE, LEAST, MOST], &[MADE, MOST, MOST], 1)?;
     goes_round(&rt, &mut [MADE, LEAST, MOST], &[MOST, LEAST, LEAST], 2)?;
     goes_round(&rt, &mut [MADE, LEAST, MOST], &[LEAST, MOST, MADE], 3)?;
-    for (field, edge) in EDGES.iter().enumerate() {
-        goes_round(&rt, &mut [LEAST; 3], &[edge.row; 3], 3).note(field)?;
-        goes_round(&rt, &mut [LEAST; 3], &[LEAST, LEAST, edge.row], 1).note(field)?;
+    for edge in EDGES.iter() {
+        goes_round(&rt, &mut [LEAST; 3], &[edge.row; 3], 3)?;
+        goes_round(&rt, &mut [LEAST; 3], &[LEAST, LEAST, edge.row], 1)?;
         goes_round(
             &rt,
             &mut [LEAST, MOST, MADE],
             &[edge.row, edge.row, MADE],
             2,
-        )
-        .note(field)?;
+        )?;
     }
     Ok(())
 }
@@ -82,8 +81,8 @@ fn ends_go_round(rt: &impl Abort, rows: &mut [ReportRow]) -> Result<(), Fail> {
 fn sixty_four_doors(rt: HostRuntime) -> Result<(), Fail> {
     goes_round(&rt, &mut [MADE; 64], &[MADE; 64], 0)?;
     goes_round(&rt, &mut [LEAST; 64], &[MOST; 64], 64)?;
-    for (field, edge) in EDGES.iter().enumerate() {
-        goes_round(&rt, &mut [LEAST; 64], &[edge.row; 64], 64).note(field)?;
+    for edge in EDGES.iter() {
+        goes_round(&rt, &mut [LEAST; 64], &[edge.row; 64], 64)?;
     }
     ends_go_round(&rt, &mut [LEAST; 64])
 }

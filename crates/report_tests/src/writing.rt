@@ -99,7 +99,7 @@ fn no_change_gives_no_byte(rt: HostRuntime) -> Result<(), Fail> {
 fn each_field_has_its_bit_and_its_bytes(rt: HostRuntime) -> Result<(), Fail> {
     for (field, edge) in EDGES.iter().enumerate() {
         let mut buffer = [FILL; 6];
-        writes(&rt, &[LEAST; 2], &[LEAST, edge.row], &mut buffer, edge.size).note(field)?;
+        writes(&rt, &[LEAST; 2], &[LEAST, edge.row], &mut buffer, edge.size)?;
         assert!(rt; &buffer[..] == &edge.record[..], "{}", field);
     }
     Ok(())
