@@ -1,5 +1,5 @@
 -- The bytes of a report. Assumes nothing.
-use Rattle.std.specs.Prelude.{ℕ, ◌+◌, min, cond, List, [], ◌∷◌, ◌++◌, length, drop, Ok, Err, Result, ◌==◌, nat_le, slice_index_or}
+use Rattle.std.specs.Prelude.{ℕ, min, cond, List, [], ◌∷◌, ◌++◌, length, drop, Ok, Err, Result, ◌==◌, nat_le, slice_index_or}
 use Rattle.std.specs.List.{range_with_len, flat_map}
 use Rattle.board.specs.declared.refusal.Cause.TheVariants.{ReportTooLong}
 use Rattle.board.specs.declared.refusal.Layer.TheVariants.{Panel}

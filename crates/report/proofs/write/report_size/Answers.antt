@@ -1,5 +1,4 @@
-use Rattle.std.proofs.Common.{◌≡◌, ◌+◌, length, sym, ap, ◌∙◌, arith}
-use Rattle.report.specs.Writing.{report_below}
+use Rattle.std.proofs.Common.{length, sym, ap, arith}
 use Rattle.report.proofs.Records.{below_none, length_more}
 use Rattle.report.proofs.write.report_size.Goals as goal
 

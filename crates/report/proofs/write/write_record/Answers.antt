@@ -1,4 +1,4 @@
-use Rattle.std.proofs.Common.{◌≡◌, ℕ, ◌+◌, ◌≤◌, List, [], ◌∷◌, ◌++◌, length, refl, arith, length-append, rules}
+use Rattle.std.proofs.Common.{◌≡◌, ℕ, ◌+◌, List, [], ◌∷◌, ◌++◌, length, refl, arith, length-append, rules}
 use Rattle.report.specs.Fields.{map_of, one_byte, four_bytes, width, wide_width}
 use Rattle.report.specs.Writing.{encoded}
 use Rattle.report.proofs.Grow.{grow, two}

@@ -1,4 +1,4 @@
-use Rattle.std.proofs.Common.{◌≡◌, ℕ, ◌+◌, ◌<◌, ◌≤◌, ◌++◌, length, drop, sym, ap, ◌∙◌, arith, length-drop, length-take, rules}
+use Rattle.std.proofs.Common.{◌≡◌, ◌+◌, ◌≤◌, ◌++◌, length, drop, sym, ap, ◌∙◌, arith, length-drop, length-take, rules}
 use Rattle.report.specs.Writing.{report_below, door_fields, door_size, bytes_of_door, doors_in}
 use Rattle.report.proofs.Grow.{grow, part}
 use Rattle.report.proofs.Records.{below_none, below_more, length_more, fits}
