@@ -1,10 +1,9 @@
 -- Calls on a door: what they keep of its row, and what they come to where there is such a door and where there is none. Assumes
 -- nothing.
-use Rattle.std.proofs.Common.{◌≡◌, ℕ, ◌<◌, ◌≤◌, Bool, true, false, cond, ltb, Some, None, Ok, Err, Option, Result, sym, refl, ap, ◌∙◌, subst, arith}
+use Rattle.std.proofs.Common.{◌≡◌, ℕ, Bool, true, false, cond, ltb, Some, None, Ok, Err, Option, Result, sym, refl, ap, subst, arith}
 use Rattle.std.proofs.lemmas.Bool.{cond-true, cond-false}
 use Rattle.board.specs.declared.refusal.Cause.{Cause}
 use Rattle.board.specs.declared.refusal.Cause.TheVariants.{NoSuchDoor}
-use Rattle.board.specs.declared.refusal.Refusal.{Refusal}
 use Rattle.board.specs.declared.status.Output.{Output}
 use Rattle.slots.specs.Priority.{slot_answer}
 use Rattle.events.specs.declared.event.Transition.{Transition}
@@ -17,8 +16,8 @@ use Rattle.door.specs.declared.simulated.Simulated.TheVariants as simulated
 use Rattle.door.specs.Calls as door
 use Rattle.door.specs.Simulated.{simulated_of, masks}
 use Rattle.history.specs.Kept.{kept, made_kept}
-use Rattle.history.specs.Views.{View, doors_of, row_at}
-use Rattle.history.specs.DoorCalls.{refused_at, outcome, stored, stored_memory, call_answer, call_after, call_memory, commanded, set_to, simulated, serviced, acknowledged}
+use Rattle.history.specs.Views.{View, doors_of}
+use Rattle.history.specs.DoorCalls.{refused_at, outcome, stored, stored_memory, call_answer, call_after, call_memory}
 use Rattle.history.proofs.Rows.{kept_tenths, kept_bound, kept_from}
 
 -- a call that is no tick leaves the released tenths of its row

@@ -1,5 +1,5 @@
 -- There is room for every tick that is accepted. Assumes nothing.
-use Rattle.std.proofs.Common.{◌≡◌, ℕ, ◌+◌, ◌*◌, ◌<◌, ◌≤◌, Bool, true, false, cond, List, Ok, Err, Result, sym, refl, ap, ◌∙◌, arith, ltb-true}
+use Rattle.std.proofs.Common.{◌≡◌, ℕ, ◌+◌, ◌*◌, ◌<◌, ◌≤◌, Bool, true, false, cond, List, Ok, Err, refl, ap, ◌∙◌, arith, ltb-true}
 use Rattle.std.proofs.lemmas.Bool.{cond-true}
 use Rattle.board.specs.Held.{Inputs}
 use Rattle.board.specs.declared.refusal.Refusal.{Refusal}
@@ -7,7 +7,7 @@ use Rattle.board.specs.declared.status.Output.{Output}
 use Rattle.door.specs.declared.row.Row.{Row}
 use Rattle.history.specs.Kept.{kept, Room}
 use Rattle.history.specs.Views.{View, doors_of, row_at}
-use Rattle.history.specs.Ticks.{door_stepped, doors_stepped, doors_driven, begun, fits, is_before_last, begun_if, told_if, tick_answer, tick_after, tick_memory}
+use Rattle.history.specs.Ticks.{doors_stepped, doors_driven, begun, fits, is_before_last, begun_if, told_if, tick_answer, tick_after, tick_memory}
 use Rattle.history.proofs.Rows.{kept_tenths}
 use Rattle.history.proofs.Ticks.{stepped_doors, stepped_tenth, stepped_next, stepped_row}
 

@@ -1,5 +1,5 @@
 -- Ticks: one door's, and those of the doors below a number. Assumes nothing.
-use Rattle.std.proofs.Common.{◌≡◌, ℕ, zero, suc, ◌+◌, ◌<◌, ◌≤◌, Bool, true, false, cond, leb, ◌≢◌, List, get_or, set, Some, None, Ok, Err, Option, Result, sym, refl, ap, ◌∙◌, add-one, arith, get_or-set_other}
+use Rattle.std.proofs.Common.{◌≡◌, ℕ, zero, suc, ◌+◌, ◌<◌, ◌≤◌, Bool, true, false, cond, leb, ◌≢◌, Some, None, Ok, Err, Option, Result, sym, refl, ap, ◌∙◌, add-one, arith, get_or-set_other}
 use borrow.Author.Tests.{lt-leb}
 use Rattle.board.specs.Held.{Held, with_output}
 use Rattle.board.specs.declared.refusal.Cause.{Cause}
@@ -14,7 +14,7 @@ use Rattle.door.specs.declared.row.Row.{Row}
 use Rattle.door.specs.Row.{legal, row_at_making}
 use Rattle.door.specs.Tick as door
 use Rattle.history.specs.Kept.{kept}
-use Rattle.history.specs.Views.{Notices, View, row_at, with_row, with_notices, door_driven, drives_door}
+use Rattle.history.specs.Views.{Notices, View, row_at, with_row, with_notices, drives_door}
 use Rattle.history.specs.Ticks.{ticked_door, contact_at, reading_at, door_ticked, door_stepped, doors_stepped, doors_driven, raised, notice_of, raised_by}
 use Rattle.history.proofs.Rows.{kept_from}
 

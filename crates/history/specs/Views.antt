@@ -1,5 +1,5 @@
 -- A panel as plain values. Assumes nothing.
-use Rattle.std.specs.Prelude.{ℕ, zero, suc, ◌+◌, Bool, cond, List, replicate, slice_index_or, slice_set}
+use Rattle.std.specs.Prelude.{ℕ, zero, suc, ◌+◌, cond, List, replicate, slice_index_or, slice_set}
 use Rattle.board.specs.Held.{Held, with_output}
 use Rattle.board.specs.declared.status.Output.{Output}
 use Rattle.board.specs.declared.status.Output.TheVariants as output

@@ -1,19 +1,19 @@
 -- The round trip: reading what was written, record by record. Assumes nothing.
-use Rattle.std.proofs.Common.{◌≡◌, ℕ, zero, suc, ◌+◌, ◌-◌, ◌<◌, ◌≤◌, Bool, true, false, cond, not, ◌||◌, eqb, ltb, leb, List, [], ◌∷◌, ◌++◌, length, get_or, take, drop, set, Some, Ok, Err, sym, refl, ap, ◌∙◌, subst, append_assoc, append-nil, arith, lt-ltb, le-leb}
+use Rattle.std.proofs.Common.{◌≡◌, ℕ, zero, suc, ◌+◌, ◌<◌, ◌≤◌, Bool, true, false, cond, eqb, leb, List, [], ◌∷◌, ◌++◌, length, get_or, take, drop, set, Some, Ok, sym, refl, ap, ◌∙◌, subst, append_assoc, append-nil, arith}
 use Rattle.std.proofs.lemmas.Bool.{cond-true, cond-false, eqb-true, lt-leb, le-ltb, or_from, not_from_true}
 use Rattle.std.proofs.lemmas.List.{take_more, drop_more, length-drop, length-append, length-take-le, set_at, get_or_at, take_all, drop_all}
 use Rattle.std.specs.List.{range_with_len, flat_map}
 use Rattle.door.specs.declared.shown.ReportRow.{ReportRow}
 use Rattle.report.specs.declared.fields.Fields.{Fields}
-use Rattle.report.specs.Fields.{map_of, fields_between, record_size}
+use Rattle.report.specs.Fields.{map_of}
 use Rattle.report.specs.Writing.{encoded, bytes_of_door, door_fields, no_report_row}
 use Rattle.mirror.specs.declared.record.Record.{Record}
 use Rattle.mirror.specs.Apply.{applied, apply_answer, mirror_after, is_bad}
 use Rattle.mirror.specs.Record.{fields_in_range}
-use Rattle.mirror.specs.Reading.{next_answer, place_after, fields_size, fields_read, record_at, cut, bad}
+use Rattle.mirror.specs.Reading.{next_answer, place_after, fields_size, fields_read, record_at}
 use Rattle.mirror.specs.Mirrored.{Mirrors, records_from}
 use Rattle.mirror.specs.Mirrored.Mirrors.{ended, applied_one}
-use Rattle.mirror.specs.Ranges.{row_in_range, InRange}
+use Rattle.mirror.specs.Ranges.{InRange}
 use Rattle.report.proofs.Records.{length-encoded}
 use Rattle.mirror.proofs.Back.{Back, record_back, size_back}
 use Rattle.mirror.proofs.Changed.{applied-between, same_between}

@@ -1,5 +1,5 @@
 -- Reading a record from any bytes. Assumes nothing.
-use Rattle.std.specs.Prelude.{ℕ, ◌+◌, ◌*◌, Bool, cond, List, length, Some, None, Ok, Err, Option, Result, ◌==◌, bit_and, nat_le, nat_lt, slice_index}
+use Rattle.std.specs.Prelude.{ℕ, ◌+◌, ◌*◌, cond, List, length, Some, None, Ok, Err, Option, Result, ◌==◌, bit_and, nat_le, nat_lt, slice_index}
 use Rattle.board.specs.declared.refusal.Cause.TheVariants.{RecordCut, BadRecord}
 use Rattle.board.specs.declared.refusal.Layer.TheVariants.{Records}
 use Rattle.board.specs.declared.refusal.Refusal.{Refusal}

@@ -1,5 +1,4 @@
-use Rattle.std.proofs.Common.{◌≡◌, ◌<◌, ◌≤◌, Err, sym, ap, ◌∙◌, arith, ltb-true}
-use Rattle.door.specs.Calls.{row_of}
+use Rattle.std.proofs.Common.{◌<◌, Err, sym, ap, ◌∙◌, arith, ltb-true}
 use Rattle.history.specs.Views.{row_at}
 use Rattle.history.specs.DoorCalls.{acknowledged, outcome, stored, stored_memory}
 use Rattle.history.proofs.DoorCalls.{acknowledge_same, no_answer, no_after, no_memory, call_value, call_view, call_drives}

@@ -1,4 +1,4 @@
-use Rattle.std.proofs.Common.{◌≡◌, ◌+◌, ◌<◌, ◌≤◌, refl, ap, ◌∙◌, arith}
+use Rattle.std.proofs.Common.{◌≡◌, ◌+◌, refl, ap, ◌∙◌, arith}
 use Rattle.board.specs.declared.status.Output.TheVariants.{Held}
 use Rattle.door.specs.Shown.{report_row}
 use Rattle.history.specs.Views.{all_driven}

@@ -1,4 +1,4 @@
-use Rattle.std.proofs.Common.{◌≡◌, ◌<◌, ◌≤◌, length, ap, ◌∙◌, arith, length-set}
+use Rattle.std.proofs.Common.{◌≤◌, ap, ◌∙◌, arith, length-set}
 use Rattle.history.proofs.Rows.{kept_set}
 use Rattle.panel.proofs.Tables.{held_driven, put_view}
 use Rattle.panel.proofs.panel.Panel.put.Goals as goal

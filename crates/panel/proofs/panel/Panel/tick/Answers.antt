@@ -1,4 +1,4 @@
-use Rattle.std.proofs.Common.{◌≡◌, ℕ, ◌≤◌, length, sym, ap, ◌∙◌, subst, arith}
+use Rattle.std.proofs.Common.{◌≡◌, ◌≤◌, length, sym, ap, ◌∙◌, subst, arith}
 use Rattle.history.specs.Kept.{Room}
 use Rattle.history.specs.Views.{View, doors_of}
 use Rattle.history.specs.Ticks.{begun, doors_stepped, doors_driven}

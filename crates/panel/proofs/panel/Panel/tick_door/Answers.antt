@@ -1,4 +1,4 @@
-use Rattle.std.proofs.Common.{◌≡◌, ◌<◌, ◌≤◌, sym, ap, ◌∙◌, subst, arith}
+use Rattle.std.proofs.Common.{◌<◌, sym, ◌∙◌, subst}
 use Rattle.board.proofs.Asked.{contact_is, reading_is}
 use Rattle.door.specs.declared.row.Row.{Row}
 use Rattle.history.proofs.Ticks.{ticked_is, door_ticked_is}
