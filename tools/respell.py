@@ -49,7 +49,7 @@ def declared():
             if line.lstrip().startswith(("--", "use ", "let ", "λ")):
                 continue
             m = SIGNATURE.match(line)
-            if m and not re.match(r"\s*goal\.", m[3]) and not m[1].startswith(("let", "in")):
+            if m and not re.match(r"\s*goal\.", m[3]):
                 found[m[1]].add(path)
     return found
 

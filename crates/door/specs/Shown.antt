@@ -8,7 +8,7 @@ use Rattle.board.specs.declared.status.LockStatus.TheVariants as lock
 use Rattle.slots.specs.Value.{door_value_number, is_lock}
 use Rattle.events.specs.declared.event.EventState.{EventState}
 use Rattle.events.specs.declared.event.EventState.TheVariants.{Normal, Fault, Offnormal}
-use Rattle.events.specs.Alarm.{alarm_number, in-set}
+use Rattle.events.specs.Alarm.{alarm_number, in_set}
 use Rattle.events.specs.Event.{bit_number}
 use Rattle.door_parts.specs.Sensed.{is_opened}
 use Rattle.door.specs.declared.row.Row.{Row}
@@ -40,7 +40,7 @@ is_normal Offnormal = false
 
 -- an alarm state that is a fault value is a fault
 abbrev pub has_fault : Row → Bool
-has_fault r = in-set r.settings.fault_values r.sensed.alarm_state
+has_fault r = in_set r.settings.fault_values r.sensed.alarm_state
 
 abbrev pub reliability_of : Row → Reliability
 reliability_of r = cond (has_fault r) MultiStateFault NoFaultDetected

@@ -6,7 +6,7 @@ use Rattle.board.specs.declared.status.DoorStatus.{DoorStatus}
 use Rattle.board.specs.declared.status.DoorStatus.TheVariants as door
 use Rattle.board.specs.declared.status.LockStatus.{LockStatus}
 use Rattle.board.specs.declared.status.LockStatus.TheVariants as lock
-use Rattle.events.specs.Alarm.{alarm_of, in-set}
+use Rattle.events.specs.Alarm.{alarm_of, in_set}
 use Rattle.door_parts.specs.declared.settings.Settings.{Settings}
 use Rattle.door.specs.declared.simulated.Simulated.{Simulated}
 use Rattle.door.specs.declared.simulated.Simulated.TheVariants.{Door, Lock, Alarm}
@@ -17,19 +17,19 @@ door_status_of n = cond (n == 0) (Some door.Closed) (cond (n == 1) (Some door.Op
 abbrev pub lock_status_of : ℕ → Option LockStatus
 lock_status_of n = cond (n == 0) (Some lock.Locked) (cond (n == 1) (Some lock.Unlocked) (cond (n == 2) (Some lock.Fault) (cond (n == 3) (Some lock.Unknown) None)))
 
-abbrev pub in-range : {X : Type 0} → Option X → (X → Simulated) → Result Simulated Cause
-in-range None f = Err ValueOutOfRange
-in-range (Some x) f = Ok (f x)
+abbrev pub in_range : {X : Type 0} → Option X → (X → Simulated) → Result Simulated Cause
+in_range None f = Err ValueOutOfRange
+in_range (Some x) f = Ok (f x)
 
 -- item 231 is Door_Status, 233 Lock_Status, 226 Door_Alarm_State
 abbrev pub simulated_of : ℕ → ℕ → Result Simulated Cause
 simulated_of i n =
-    cond (i == 231) (in-range (door_status_of n) Door)
-    (cond (i == 233) (in-range (lock_status_of n) Lock)
-    (cond (i == 226) (in-range (alarm_of n) Alarm)
+    cond (i == 231) (in_range (door_status_of n) Door)
+    (cond (i == 233) (in_range (lock_status_of n) Lock)
+    (cond (i == 226) (in_range (alarm_of n) Alarm)
     (Err NoSuchItem)))
 
 abbrev pub masks : Settings → Simulated → Bool
 masks s (Door c) = false
 masks s (Lock l) = false
-masks s (Alarm a) = in-set s.masked_alarm_values a
+masks s (Alarm a) = in_set s.masked_alarm_values a

@@ -10,7 +10,7 @@ use Rattle.events.specs.declared.alarm.AlarmState.{AlarmState}
 use Rattle.events.specs.declared.alarm.AlarmState.TheVariants.{Normal, DoorOpenTooLong, ForcedOpen, DoorFault}
 use Rattle.door_parts.specs.declared.sensed.Sensed.{Sensed}
 use Rattle.door_parts.specs.declared.settings.Settings.{Settings}
-use Rattle.events.specs.Alarm.{alarm_number, in-set}
+use Rattle.events.specs.Alarm.{alarm_number, in_set}
 
 abbrev pub sensed_at_making : Sensed
 sensed_at_making = record { door_status = door.Unknown; lock_status = lock.Unknown; forced = false; open_count = 0; alarm_state = Normal; held_count = 0 }
@@ -79,7 +79,7 @@ open_under x v = is_opened x.door_status && is_lock v
 
 -- an alarm is shown where it holds and is not masked
 abbrev pub shows : Settings → AlarmState → Bool → Bool
-shows s a holds = holds && not (in-set s.masked_alarm_values a)
+shows s a holds = holds && not (in_set s.masked_alarm_values a)
 
 -- the first that holds and is not masked
 abbrev pub alarm_of_door : Settings → LockStatus → DoorStatus → DoorValue → Bool → ℕ → AlarmState
@@ -99,7 +99,7 @@ abbrev pub open_settled : Sensed → DoorValue → ℕ
 open_settled x v = cond (is_lock v) x.open_count 0
 
 abbrev pub alarm_kept : Sensed → Settings → AlarmState
-alarm_kept x s = cond (in-set s.masked_alarm_values x.alarm_state) Normal x.alarm_state
+alarm_kept x s = cond (in_set s.masked_alarm_values x.alarm_state) Normal x.alarm_state
 
 -- out of service the alarm state stays, or is NORMAL where it is masked
 abbrev pub alarm_settled : Sensed → Settings → Bool → DoorValue → AlarmState

@@ -1,6 +1,6 @@
 ghost use Rattle.std.specs.Prelude.{◌≡◌};
 ghost use Rattle.door_parts.specs.Sensed.{sensed_at_making, is_opened, is_fault, one_more, with_status, with_lock, with_alarm, counted_open, open_under, alarm_of_door, alarm_kept, settled_sense, held_longer};
-ghost use Rattle.door_parts.specs.Sensed.{shows as shows-alarm};
+ghost use Rattle.door_parts.specs.Sensed.{shows as shows_alarm};
 
 use crate::settings::Settings;
 use board::status::{DoorStatus, LockStatus};
@@ -39,7 +39,7 @@ fn one_more(count: u32) -> u32
 }
 
 fn shows(settings: &Settings, alarm: AlarmState, holds: bool) -> bool
-    ensures { result ≡ shows-alarm settings.now alarm holds }
+    ensures { result ≡ shows_alarm settings.now alarm holds }
 {
     holds && !alarm.is_in(settings.masked_alarm_values)
 }

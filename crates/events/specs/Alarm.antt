@@ -31,5 +31,5 @@ alarm_of n =
 abbrev pub alarm_bit : AlarmState → ℕ
 alarm_bit a = 2 ^ alarm_number a
 
-abbrev pub in-set : ℕ → AlarmState → Bool
-in-set set a = not ((bit_and set (alarm_bit a)) == 0)
+abbrev pub in_set : ℕ → AlarmState → Bool
+in_set set a = not ((bit_and set (alarm_bit a)) == 0)

@@ -10,7 +10,7 @@ use Rattle.events.specs.declared.event.Class.TheVariants.{FaultValue, AlarmValue
 use Rattle.events.specs.declared.event.Acked.{Acked}
 use Rattle.events.specs.declared.event.Stamps.{Stamps}
 use Rattle.events.specs.declared.event.Events.{Events}
-use Rattle.events.specs.Alarm.{in-set}
+use Rattle.events.specs.Alarm.{in_set}
 
 abbrev pub event_number : EventState → ℕ
 event_number Normal = 0
@@ -24,7 +24,7 @@ transition_number ToNormal = 2
 
 -- a value in both sets is a fault value
 abbrev pub class_of : AlarmState → ℕ → ℕ → Class
-class_of a alarms faults = cond (in-set faults a) FaultValue (cond (in-set alarms a) AlarmValue NeitherValue)
+class_of a alarms faults = cond (in_set faults a) FaultValue (cond (in_set alarms a) AlarmValue NeitherValue)
 
 -- held for at least the delay: the count is in ticks of a tenth, the delay in seconds
 abbrev pub held_long : ℕ → ℕ → Bool

@@ -1,5 +1,5 @@
 ghost use Rattle.std.specs.Prelude.{◌≡◌};
-ghost use Rattle.events.specs.Alarm.{alarm_number, alarm_of, alarm_bit, in-set};
+ghost use Rattle.events.specs.Alarm.{alarm_number, alarm_of, alarm_bit, in_set};
 
 /// What a door can be alarmed about, Door_Alarm_State.
 #[derive(Clone, Copy, PartialEq, Eq)]
@@ -68,7 +68,7 @@ impl AlarmState {
     }
 
     pub fn is_in(self, set: u16) -> bool
-        ensures { result ≡ in-set set self }
+        ensures { result ≡ in_set set self }
     {
         set & self.bit() != 0
     }

@@ -15,7 +15,7 @@ use Rattle.door.specs.declared.simulated.Simulated.{Simulated}
 use Rattle.door.specs.declared.simulated.Simulated.TheVariants as simulated
 use Rattle.door.specs.Calls as door
 use Rattle.door.specs.Simulated.{simulated_of, masks}
-use Rattle.history.specs.Kept.{kept, made_kept}
+use Rattle.history.specs.Kept.{kept, MadeKept}
 use Rattle.history.specs.Views.{View, doors_of}
 use Rattle.history.specs.DoorCalls.{refused_at, outcome, stored, stored_memory, call_answer, call_after, call_memory}
 use Rattle.history.proofs.Rows.{kept_tenths, kept_bound, kept_from}
@@ -62,7 +62,7 @@ pub acknowledge_same : (r : Row) (n : ℕ) → Same r (door.acknowledge_answer r
 acknowledge_same r n = known_same r (transition_numbered n)
 
 -- so a door that such a call made can be stored
-pub stays_kept : (t : ℕ) (old r : Row) (o : Result Door Cause) (x : Result Row Cause) → kept t old ≡ true → r ≡ old → door.row_of o ≡ x → Same r x → made_kept t (door.row_of o)
+pub stays_kept : (t : ℕ) (old r : Row) (o : Result Door Cause) (x : Result Row Cause) → kept t old ≡ true → r ≡ old → door.row_of o ≡ x → Same r x → MadeKept t (door.row_of o)
 stays_kept t old r (Err e) x k q h s = tt
 stays_kept t old r (Ok d) x k q h s =
     let same : Same r (Ok d.row) = subst (Same r) (sym h) s in

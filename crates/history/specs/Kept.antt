@@ -14,9 +14,9 @@ all_kept tenth [] = true
 all_kept tenth (r ∷ rs) = kept tenth r && all_kept tenth rs
 
 -- a row that a call made is kept
-abbrev pub made_kept : ℕ → Result Row Cause → Type 0
-made_kept tenth (Ok r) = kept tenth r ≡ true
-made_kept tenth (Err e) = Unit {0}
+abbrev pub MadeKept : ℕ → Result Row Cause → Type 0
+MadeKept tenth (Ok r) = kept tenth r ≡ true
+MadeKept tenth (Err e) = Unit {0}
 
 -- there is room for a tick that has begun: no door has been released for as many tenths as have passed, the last tenth has not
 -- passed, and there are serials for all doors

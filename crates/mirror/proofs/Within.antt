@@ -3,14 +3,14 @@ use Rattle.std.proofs.Common.{◌≡◌, ℕ, ◌^◌, ◌<◌, Bool, true, fals
 use Rattle.std.proofs.lemmas.Bool.{and_parts, and_from, leb-true}
 use Rattle.door.specs.declared.shown.ReportRow.{ReportRow}
 use Rattle.report.specs.Fields.{if_new, fields_between}
-use Rattle.mirror.specs.Record.{in-range, fields_in_range}
+use Rattle.mirror.specs.Record.{in_range, fields_in_range}
 use Rattle.mirror.specs.Ranges.{row_in_range}
 
-test_range : (b : Bool) (n most : ℕ) → leb n most ≡ true → in-range (cond b None (Some n)) most ≡ true
+test_range : (b : Bool) (n most : ℕ) → leb n most ≡ true → in_range (cond b None (Some n)) most ≡ true
 test_range true n most h = refl
 test_range false n most h = h
 
-new_range : (o n most : ℕ) → leb n most ≡ true → in-range (if_new o n) most ≡ true
+new_range : (o n most : ℕ) → leb n most ≡ true → in_range (if_new o n) most ≡ true
 new_range o n most h = test_range (eqb o n) n most h
 
 pub between_in_range : (old new : ReportRow) → row_in_range new ≡ true → fields_in_range (fields_between old new) ≡ true

@@ -1,5 +1,5 @@
 ghost use Rattle.std.specs.Prelude.{◌≡◌};
-ghost use Rattle.mirror.specs.Record.{in-range, fields_in_range};
+ghost use Rattle.mirror.specs.Record.{in_range, fields_in_range};
 
 use report::fields::Fields;
 
@@ -12,7 +12,7 @@ pub struct Record {
 }
 
 fn is_within(value: Option<u8>, most: u8) -> bool
-    ensures { result ≡ in-range value most }
+    ensures { result ≡ in_range value most }
 {
     match value {
         Some(v) => v <= most,
@@ -21,7 +21,7 @@ fn is_within(value: Option<u8>, most: u8) -> bool
 }
 
 fn are_tenths_within(value: Option<u32>) -> bool
-    ensures { result ≡ in-range value 2000000000 }
+    ensures { result ≡ in_range value 2000000000 }
 {
     match value {
         Some(v) => v <= 2_000_000_000,

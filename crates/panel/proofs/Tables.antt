@@ -16,7 +16,7 @@ use Rattle.notices.specs.declared.waiting.Waiting.{Waiting}
 use Rattle.notices.specs.Waiting.{none_waiting, with_notice}
 use Rattle.history.specs.Views.{View, door_driven, drives_door, with_row, with_notices}
 use Rattle.history.specs.Ticks.{raised}
-use Rattle.history.specs.Kept.{kept, all_kept, made_kept}
+use Rattle.history.specs.Kept.{kept, all_kept, MadeKept}
 use Rattle.history.proofs.Rows.{kept_at}
 use Rattle.history.proofs.DoorCalls.{Same, stays_kept}
 
@@ -68,7 +68,7 @@ kept_row t n rs i l k h =
     subst (λ (x : Row). kept t x ≡ true) (of_part n rs i row_at_making row_at_making l (omega arith)) (kept_at t rs i row_at_making (omega arith) h)
 
 -- what a call made of a door's row can be stored
-pub storable : (t n : ℕ) (rs : List Row) (i : ℕ) (o : Result Door Cause) (x : Result Row Cause) → i < n → n ≤ length rs → all_kept t rs ≡ true → row_of o ≡ x → Same (get_or (take n rs) i row_at_making) x → made_kept t (row_of o)
+pub storable : (t n : ℕ) (rs : List Row) (i : ℕ) (o : Result Door Cause) (x : Result Row Cause) → i < n → n ≤ length rs → all_kept t rs ≡ true → row_of o ≡ x → Same (get_or (take n rs) i row_at_making) x → MadeKept t (row_of o)
 storable t n rs i o x l k h e s = stays_kept t (get_or (take n rs) i row_at_making) (get_or (take n rs) i row_at_making) o x (kept_row t n rs i l k h) refl e s
 
 -- a notice is kept

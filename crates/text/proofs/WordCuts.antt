@@ -3,7 +3,7 @@ use Rattle.std.proofs.Common.{◌≡◌, ℕ, suc, ◌-◌, ◌<◌, true, false
 use Rattle.std.proofs.lemmas.List.{nil_from_length, take_rest}
 use Rattle.std.proofs.lemmas.Bool.{true≢false, eqb-true, cond-true, cond-false, cond_both}
 use Rattle.text.specs.Words.{blank, comment, before_comment, word_ends, words_of, skip_blanks}
-use Rattle.text.specs.Scan.{until, in-front}
+use Rattle.text.specs.Scan.{until, in_front}
 
 pub take_comment : (bs : List ℕ) → take (until comment bs) bs ≡ before_comment bs
 take_comment [] = refl
@@ -41,9 +41,9 @@ word_cut (b ∷ bs) e =
     let n = until blank bs in
     let Cut : List (List ℕ) → Type 0 = λ ws. ws ≡ (b ∷ take n bs) ∷ words_of (drop n bs) in
     let len : until blank (b ∷ bs) ≡ suc n = cond-false (blank b) _ _ e in
-    let one : words_of (b ∷ bs) ≡ cond (word_ends bs) ((b ∷ []) ∷ words_of bs) (in-front b (words_of bs)) = cond-false (blank b) _ _ e in
-    let cut : Cut (cond (word_ends bs) ((b ∷ []) ∷ words_of bs) (in-front b (words_of bs))) =
-    cond_both (word_ends bs) _ _ Cut (λ at_end. ap (λ m. (b ∷ take m bs) ∷ words_of (drop m bs)) (sym (ends_here bs at_end))) (λ on. ap (in-front b) (word_cut bs on)) in
+    let one : words_of (b ∷ bs) ≡ cond (word_ends bs) ((b ∷ []) ∷ words_of bs) (in_front b (words_of bs)) = cond-false (blank b) _ _ e in
+    let cut : Cut (cond (word_ends bs) ((b ∷ []) ∷ words_of bs) (in_front b (words_of bs))) =
+    cond_both (word_ends bs) _ _ Cut (λ at_end. ap (λ m. (b ∷ take m bs) ∷ words_of (drop m bs)) (sym (ends_here bs at_end))) (λ on. ap (in_front b) (word_cut bs on)) in
     one ∙ cut ∙ ap (λ m. take m (b ∷ bs) ∷ words_of (drop m (b ∷ bs))) (sym len)
 
 pub next_word : (bs rest word after : List ℕ) (n : ℕ) → rest ≡ skip_blanks bs → eqb (length rest) 0 ≡ false → n ≡ until blank rest → word ≡ take n rest → after ≡ drop n rest → words_of bs ≡ word ∷ words_of after

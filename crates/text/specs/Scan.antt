@@ -7,6 +7,6 @@ until p [] = 0
 until p (b ∷ bs) = cond (p b) 0 (suc (until p bs))
 
 -- a byte in front of the first part, or as the only part
-abbrev pub in-front : ℕ → List (List ℕ) → List (List ℕ)
-in-front b [] = (b ∷ []) ∷ []
-in-front b (p ∷ ps) = (b ∷ p) ∷ ps
+abbrev pub in_front : ℕ → List (List ℕ) → List (List ℕ)
+in_front b [] = (b ∷ []) ∷ []
+in_front b (p ∷ ps) = (b ∷ p) ∷ ps

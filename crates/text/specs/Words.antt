@@ -1,6 +1,6 @@
 -- The words of a line. Assumes nothing.
 use Rattle.std.specs.Prelude.{ℕ, Bool, true, cond, ◌||◌, List, [], ◌∷◌, ◌==◌}
-use Rattle.text.specs.Scan.{in-front}
+use Rattle.text.specs.Scan.{in_front}
 use Rattle.text.specs.declared.words.Words.{Words}
 
 -- space, tab and carriage return
@@ -23,7 +23,7 @@ word_ends (b ∷ bs) = blank b
 -- the longest runs of bytes that are no blank
 abbrev pub words_of : List ℕ → List (List ℕ)
 words_of [] = []
-words_of (b ∷ bs) = cond (blank b) (words_of bs) (cond (word_ends bs) ((b ∷ []) ∷ words_of bs) (in-front b (words_of bs)))
+words_of (b ∷ bs) = cond (blank b) (words_of bs) (cond (word_ends bs) ((b ∷ []) ∷ words_of bs) (in_front b (words_of bs)))
 
 abbrev pub words : List ℕ → List (List ℕ)
 words line = words_of (before_comment line)

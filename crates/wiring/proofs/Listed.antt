@@ -1,9 +1,9 @@
 -- A list read line by line. Assumes nothing.
 use Rattle.std.proofs.Common.{◌≡◌, ℕ, ◌+◌, ◌≤◌, Bool, true, false, cond, List, [], ◌∷◌, ◌++◌, length, ap, ◌∙◌, append_assoc, arith}
 use Rattle.text.specs.Lines.{newline, lines}
-use Rattle.text.specs.Scan.{in-front}
+use Rattle.text.specs.Scan.{in_front}
 
-length-in_front : (b : ℕ) (ls : List (List ℕ)) → length (in-front b ls) ≤ length ls + 1
+length-in_front : (b : ℕ) (ls : List (List ℕ)) → length (in_front b ls) ≤ length ls + 1
 length-in_front b [] = omega arith
 length-in_front b (l ∷ ls) = omega arith
 
@@ -17,7 +17,7 @@ length-lines [] = omega arith
 length-lines (b ∷ bs) =
     let h = length-lines bs in
     let k = length-in_front b (lines bs) in
-    let s = shorter (newline b) (length bs) ([] ∷ lines bs) (in-front b (lines bs)) (omega arith) (omega arith) in
+    let s = shorter (newline b) (length bs) ([] ∷ lines bs) (in_front b (lines bs)) (omega arith) (omega arith) in
     omega arith
 
 -- one line more: what it adds goes from what is to come to what there is

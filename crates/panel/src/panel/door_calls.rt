@@ -3,7 +3,7 @@ ghost use Rattle.door.specs.Calls.{row_of};
 ghost use Rattle.history.specs.Views.{row_at, with_row, drives_door};
 ghost use Rattle.history.specs.DoorCalls.{refused_at, outcome, stored, stored_memory, call_answer, call_after, call_memory};
 ghost use Rattle.history.specs.DoorCalls.{commanded, set_to, simulated, serviced, acknowledged};
-ghost use Rattle.history.specs.Kept.{kept, made_kept};
+ghost use Rattle.history.specs.Kept.{kept, MadeKept};
 ghost use Rattle.panel.specs.Look.{view};
 
 use crate::panel::Panel;
@@ -67,7 +67,7 @@ impl<B: Board> Panel<B> {
 
     /// Stores what a call made of a door, or refuses with its cause.
     fn finish(&mut self, door: usize, made: Result<Door, Cause>) -> Result<(), Refusal>
-        requires { (door < (B.held (B.memory self.old.board)).doors) × (made_kept self.old.tenth (row_of made)) }
+        requires { (door < (B.held (B.memory self.old.board)).doors) × (MadeKept self.old.tenth (row_of made)) }
         ensures value { result ≡ outcome door (row_of made) }
         ensures after { view B.held B.memory self.new ≡ stored (view B.held B.memory self.old) door (row_of made) }
         ensures memory { B.memory self.new.board ≡ stored_memory B.driven (B.memory self.old.board) door (row_of made) }
