@@ -1,7 +1,7 @@
 #!/usr/bin/env python3
 """Respells the repository's own definitions and lemmas in snake case: a dash inside a name becomes an underscore.
 
-usage: tools/respell.py [--check]     at the top of the repository, once, after the toolchain's own port script
+usage: tools/respell.py [--check]     at the top of the repository, after the toolchain's own port script; a second run changes nothing
 
 It collects every name that a file of specs/ or proofs/ declares (definitions, lemmas, record fields, constructors, labels of
 records) and turns those with a dash wherever they stand as whole words: in .antt files outside quoted text, and in .rt files

@@ -6,7 +6,7 @@ mod alarms;
 #[cfg(test)]
 mod commands;
 #[cfg(test)]
-mod events;
+mod event_states;
 #[cfg(test)]
 mod fixture;
 #[cfg(test)]
