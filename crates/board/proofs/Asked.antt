@@ -14,10 +14,6 @@ ok_is : {X : Type 0} (b : Bool) (r : Refusal) (x y : X) → b ≡ true → cond 
 ok_is true r x y q e = cc
 ok_is false r x y q e = cc
 
-ok_true : {X : Type 0} (b : Bool) (r : Refusal) (x : X) → cond b (Ok x) (Err r) ≡ Ok x → b ≡ true
-ok_true true r x e = refl
-ok_true false r x e = let z : ◌≡◌ {A = ℕ} 0 1 = cc in absurd (omega arith)
-
 pub output_is : (h : Held) (i : ℕ) (x : Output) → i ≤ h.doors → output_answer h i ≡ Ok x → x ≡ get_or h.outputs i output.Held
 output_is h i x l e = ok_is _ _ x _ (le-leb i h.doors l) e
 
@@ -26,12 +22,3 @@ contact_is h i x l e = ok_is _ _ x _ (lt-ltb i h.doors l) e
 
 pub reading_is : (h : Held) (i : ℕ) (x : LockStatus) → i < h.doors → reading_answer h i ≡ Ok x → x ≡ get_or h.inputs.readings i Locked
 reading_is h i x l e = ok_is _ _ x _ (lt-ltb i h.doors l) e
-
-pub driven_is : {M : Type 0} (h : Held) (i : ℕ) (m new old : M) → i ≤ h.doors → m ≡ if_driven h i new old → m ≡ new
-driven_is h i m new old l e = e ∙ cond-true _ _ _ (le-leb i h.doors l)
-
-pub told_ok : (h : Held) (bs : List ℕ) → tick_answer h bs ≡ Ok tt → eqb (length bs) h.width ≡ true
-told_ok h bs e = ok_true _ _ tt e
-
-pub told_is : {M : Type 0} (h : Held) (bs : List ℕ) (m new old : M) → eqb (length bs) h.width ≡ true → m ≡ if_told h bs new old → m ≡ new
-told_is h bs m new old q e = e ∙ cond-true _ _ _ q

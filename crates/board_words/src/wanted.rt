@@ -1,5 +1,4 @@
 ghost use Rattle.std.specs.Prelude.{◌≡◌, OnOk};
-ghost use Rattle.text.specs.Words.{words_left};
 ghost use Rattle.line_words.specs.Read.{rest};
 ghost use Rattle.board_words.specs.Wanted.{kind_said, first_kind, doors_say, wanted_says, past_wanted};
 
@@ -35,13 +34,10 @@ fn kind_of(word: &[u8]) -> Result<BoardKind, WordFault>
 }
 
 fn read_kind(words: &mut Words<'_>) -> Result<BoardKind, WordFault>
-    ensures value { result ≡ first_kind (words_left words.old) }
-    ensures after { words_left words.new ≡ rest (words_left words.old) }
+    ensures value { result ≡ first_kind words.old }
+    ensures after { words.new ≡ rest words.old }
 {
-    match words.next() {
-        Some(word) => kind_of(word),
-        None => Err(WordFault::Missing),
-    }
+    kind_of(words.next().ok_or(WordFault::Missing)?)
 }
 
 fn read_doors(
@@ -49,8 +45,8 @@ fn read_doors(
     steady: Option<u8>,
     kind: BoardKind,
 ) -> Result<Wanted, WordFault>
-    ensures value { result ≡ doors_say steady kind (words_left words.old) }
-    ensures after { words_left words.new ≡ rest (words_left words.old) }
+    ensures value { result ≡ doors_say steady kind words.old }
+    ensures after { words.new ≡ rest words.old }
 {
     let doors = read_number(words)? as usize;
     Ok(Wanted {
@@ -62,12 +58,10 @@ fn read_doors(
 
 /// `[steady COUNT] plain|loop DOORS`, and leaves the words behind it.
 pub fn read_wanted(words: &mut Words<'_>) -> Result<Wanted, WordFault>
-    ensures value { result ≡ wanted_says (words_left words.old) }
-    ensures after { OnOk result (words_left words.new ≡ past_wanted (words_left words.old)) }
+    ensures value { result ≡ wanted_says words.old }
+    ensures after { OnOk result (words.new ≡ past_wanted words.old) }
 {
-    let Some(word) = words.next() else {
-        return Err(WordFault::Missing);
-    };
+    let word = words.next().ok_or(WordFault::Missing)?;
     if spells(word, b"steady") {
         // The count is a byte.
         let count = read_limited(words, 255)? as u8;

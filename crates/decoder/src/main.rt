@@ -7,11 +7,13 @@ use decoding::line::read_report;
 use decoding::said::{record_text, row_text};
 use door::row::Row;
 use door::shown::ReportRow;
+use line_words::fault::WordFault;
 use mirror::apply::apply;
 use mirror::reader::Reader;
 use mirror::record::Record;
-use names::outcome::outcome_text;
 use numeral::decimal::decimal;
+use outcome::outcome::outcome_text;
+use std::alloc::AllocError;
 use std::env;
 use std::io::Read;
 use text::lines::Lines;
@@ -20,9 +22,9 @@ use text::lines::Lines;
 fn rows_wanted(rt: &HostRuntime) -> anyhow::Result<usize> {
     let mut args = env::args(rt)?;
     let _program = args.next();
-    let Some(word) = args.next() else {
-        return Err(anyhow!("usage: decoder ROWS < REPORTS"));
-    };
+    let word = args
+        .next()
+        .ok_or_else(|| anyhow!("usage: decoder ROWS < REPORTS"))?;
     match decimal(word.as_bytes()) {
         Ok(n) if n >= 1 && n <= 64 => Ok(n as usize),
         _ => Err(anyhow!("the number of rows is 1 to 64")),
@@ -32,16 +34,15 @@ fn rows_wanted(rt: &HostRuntime) -> anyhow::Result<usize> {
 /// Prints each faulty line with its reason, and answers whether there was one.
 fn has_faults(rt: &HostRuntime, text: &[u8]) -> anyhow::Result<bool> {
     let mut found = false;
-    let mut lines = Lines::of(text);
     // A line has a byte at least.
-    for number in 1..=text.len() {
-        let Some(line) = lines.next() else {
-            break;
-        };
-        if let Err(fault) = read_report(rt.alloc(), line)? {
-            let reason = fault.reason();
-            eprintln!(rt; "line {number}: {reason}")?;
-            found = true;
+    for (number, line) in (1..=text.len()).zip(Lines::of(text)) {
+        match read_report(rt.alloc(), line) {
+            Ok(_) => {}
+            Err(WordFault::OutOfMemory) => return Err(AllocError.into()),
+            Err(fault) => {
+                eprintln!(rt; "line {number}: {fault}")?;
+                found = true;
+            }
         }
     }
     Ok(found)
@@ -82,16 +83,17 @@ fn print_mirror(rt: &HostRuntime, mirror: &[ReportRow]) -> anyhow::Result<()> {
 }
 
 fn decode_all(rt: &HostRuntime, text: &[u8], mirror: &mut [ReportRow]) -> anyhow::Result<()> {
-    let mut lines = Lines::of(text);
-    for number in 1..=text.len() {
-        let Some(line) = lines.next() else {
-            break;
-        };
-        if let Ok(Some(bytes)) = read_report(rt.alloc(), line)? {
-            let count = bytes.len();
-            println!(rt; "line {number} bytes={count}")?;
-            decode(rt, bytes.as_slice(), mirror)?;
-            print_mirror(rt, mirror)?;
+    for (number, line) in (1..=text.len()).zip(Lines::of(text)) {
+        match read_report(rt.alloc(), line) {
+            Ok(Some(bytes)) => {
+                let count = bytes.len();
+                println!(rt; "line {number} bytes={count}")?;
+                decode(rt, bytes.as_slice(), mirror)?;
+                print_mirror(rt, mirror)?;
+            }
+            Err(WordFault::OutOfMemory) => return Err(AllocError.into()),
+            // A line without a word; no line has a fault here.
+            Ok(None) | Err(_) => {}
         }
     }
     Ok(())

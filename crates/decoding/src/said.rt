@@ -12,9 +12,8 @@ fn field_text(heap: Global, field: Field, value: Option<u32>) -> Result<String, 
 {
     match value {
         Some(number) => {
-            let name = field.name();
             let text = field.value_text(heap, number)?;
-            format!(in heap; " {name}={text}")
+            format!(in heap; " {field}={text}")
         }
         None => Ok(String::new(heap)),
     }

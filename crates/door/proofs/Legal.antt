@@ -4,9 +4,10 @@ use Rattle.std.proofs.lemmas.Bool.{and_parts, and_from}
 use Rattle.std.proofs.lemmas.Bool.Decides.{nat_tests}
 use Rattle.slots.specs.declared.value.DoorValue.{DoorValue}
 use Rattle.slots.specs.declared.value.DoorValue.TheVariants.{Lock, Unlock, PulseUnlock, ExtendedPulseUnlock}
-use Rattle.slots.specs.declared.slots.Timed.{Timed}
+use Rattle.slots.specs.declared.timed.Timed.{Timed}
 use Rattle.slots.specs.Value.{is_pulse}
-use Rattle.slots.specs.Slots.{timed, all_timed, any_filled, before, written_at, stored, pulse_stored, fallen, with_time}
+use Rattle.slots.specs.PriorityArray.{any_filled, before, written_at}
+use Rattle.slots.specs.Timed.{timed, all_timed, stored, pulse_stored, fallen, with_time}
 use Rattle.board.specs.declared.refusal.Cause.{Cause}
 use Rattle.board.specs.declared.refusal.Cause.TheVariants.{ValueOutOfRange, SimulateInService, AlarmStateMasked}
 use Rattle.board.specs.declared.status.DoorStatus.{DoorStatus}
@@ -67,14 +68,14 @@ all_timed-fallen (Some t ∷ xs) = and_from _ _ (all_fall (is_pulse t.value) t.v
 -- a refused call gives no record; an accepted one the one that was worked out
 accepted : {X : Type 0} (a : Result X Cause) (f : X → Result Row Cause) (y : Row) → then a f ≡ Ok y → ((x : X) → a ≡ Ok x → f x ≡ Ok y → legal y ≡ true) → legal y ≡ true
 accepted (Ok x) f y e k = k x refl e
-accepted (Err c) f y e k = let z : ◌≡◌ {A = ℕ} 0 1 = cc in absurd (omega arith)
+accepted (Err c) f y e k = cc
 
 one_of : (b : Bool) (p q : Result Row Cause) (y : Row) → cond b p q ≡ Ok y → (p ≡ Ok y → legal y ≡ true) → (q ≡ Ok y → legal y ≡ true) → legal y ≡ true
 one_of true p q y e k l = k e
 one_of false p q y e k l = l e
 
 refused : (c : Cause) (y : Row) → Err c ≡ Ok y → legal y ≡ true
-refused c y e = let z : ◌≡◌ {A = ℕ} 0 1 = cc in absurd (omega arith)
+refused c y e = cc
 
 -- settling looks neither at the slots nor at the settings
 same_legal : (r changed y : Row) → legal r ≡ true → legal changed ≡ legal r → done r changed ≡ Ok y → legal y ≡ true
@@ -121,12 +122,12 @@ lasts s = not (is_pulse s.relinquish_default)
 
 then_lasts : {X : Type 0} (x : Result X Cause) (f : X → Settings) (s : Settings) → then_set x f ≡ Ok s → ((y : X) → lasts (f y) ≡ true) → lasts s ≡ true
 then_lasts (Ok y) f s e h = let g : f y ≡ s = cc in ap lasts (sym g) ∙ h y
-then_lasts (Err c) f s e h = let z : ◌≡◌ {A = ℕ} 0 1 = cc in absurd (omega arith)
+then_lasts (Err c) f s e h = cc
 
 default_lasts : (a b : Bool) (s new : Settings) → then_set (cond a (Ok Lock) (cond b (Ok Unlock) (Err ValueOutOfRange))) (with_default s) ≡ Ok new → lasts new ≡ true
 default_lasts true b s new e = let g : with_default s Lock ≡ new = cc in ap lasts (sym g)
 default_lasts false true s new e = let g : with_default s Unlock ≡ new = cc in ap lasts (sym g)
-default_lasts false false s new e = let z : ◌≡◌ {A = ℕ} 0 1 = cc in absurd (omega arith)
+default_lasts false false s new e = cc
 
 item_lasts : (i : Item) (s new : Settings) (n : ℕ) → set_answer s i n ≡ Ok new → lasts s ≡ true → lasts new ≡ true
 item_lasts AlarmValues s new n e h = then_lasts (set_of_answer n) _ new e (λ y. h)
@@ -141,7 +142,7 @@ item_lasts DoorUnlockDelayTime s new n e h = then_lasts (number_answer 864000 n)
 item_lasts MaskedAlarmValues s new n e h = then_lasts (set_of_answer n) _ new e (λ y. h)
 
 known_lasts : (o : Option Item) (s new : Settings) (n : ℕ) → set_known o s n ≡ Ok new → lasts s ≡ true → lasts new ≡ true
-known_lasts None s new n e h = let z : ◌≡◌ {A = ℕ} 0 1 = cc in absurd (omega arith)
+known_lasts None s new n e h = cc
 known_lasts (Some i) s new n e h = item_lasts i s new n e h
 
 pub legal_set : (r y : Row) (i n : ℕ) → legal r ≡ true → Ok y ≡ set_row_answer r i n → legal y ≡ true

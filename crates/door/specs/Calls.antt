@@ -4,7 +4,7 @@ use Rattle.board.specs.declared.refusal.Cause.{Cause}
 use Rattle.board.specs.declared.refusal.Cause.TheVariants.{ValueOutOfRange, SimulateInService, AlarmStateMasked}
 use Rattle.slots.specs.declared.value.DoorValue.{DoorValue}
 use Rattle.slots.specs.Priority.{slot_answer}
-use Rattle.slots.specs.Value.{door_value_of}
+use Rattle.slots.specs.Value.{door_value_of, known_value}
 use Rattle.events.specs.declared.event.Transition.{Transition}
 use Rattle.events.specs.Event.{transition_numbered, acknowledged}
 use Rattle.door_parts.specs.Settings.{set_item_answer}
@@ -26,14 +26,9 @@ then (Err e) f = Err e
 abbrev pub done : Row → Row → Result Row Cause
 done r changed = Ok (settled changed r.sensed.alarm_state)
 
-abbrev pub known_value : Option DoorValue → Result (Option DoorValue) Cause
-known_value None = Err ValueOutOfRange
-known_value (Some v) = Ok (Some v)
-
 -- NULL, or the number of a value
 abbrev pub value_answer : Option ℕ → Result (Option DoorValue) Cause
-value_answer None = Ok None
-value_answer (Some n) = known_value (door_value_of n)
+value_answer v = known_value door_value_of v
 
 abbrev pub command_answer : Row → ℕ → Option ℕ → Result Row Cause
 command_answer r p v = then (slot_answer p) (λ i. then (value_answer v) (λ w. done r (with_commanded r (written r.commanded r.settings i w))))

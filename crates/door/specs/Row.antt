@@ -1,6 +1,6 @@
 -- A door's record, and how it settles. Assumes nothing.
 use Rattle.std.specs.Prelude.{Bool, false, not, ◌&&◌}
-use Rattle.slots.specs.Slots.{all_timed}
+use Rattle.slots.specs.Timed.{all_timed}
 use Rattle.slots.specs.Value.{is_pulse}
 use Rattle.events.specs.declared.alarm.AlarmState.{AlarmState}
 use Rattle.events.specs.declared.event.Events.{Events}

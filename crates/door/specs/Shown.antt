@@ -1,5 +1,5 @@
 -- What a door shows beside its record. Assumes nothing.
-use Rattle.std.specs.Prelude.{ℕ, ◌+◌, Bool, true, false, cond, not, ◌||◌, ◌==◌}
+use Rattle.std.specs.Prelude.{ℕ, ◌+◌, Bool, true, false, cond, not, ◌||◌, List, codes, Some, None, Option, ◌==◌}
 use Rattle.board.specs.Status.{door_status_number, lock_status_number, output_number}
 use Rattle.board.specs.declared.status.DoorStatus.{DoorStatus}
 use Rattle.board.specs.declared.status.DoorStatus.TheVariants as door
@@ -9,7 +9,7 @@ use Rattle.slots.specs.Value.{door_value_number, is_lock}
 use Rattle.events.specs.declared.event.EventState.{EventState}
 use Rattle.events.specs.declared.event.EventState.TheVariants.{Normal, Fault, Offnormal}
 use Rattle.events.specs.Alarm.{alarm_number, in_set}
-use Rattle.events.specs.Event.{bit_number}
+use Rattle.events.specs.PerTransition.{bit_number}
 use Rattle.door_parts.specs.Sensed.{is_opened}
 use Rattle.door.specs.declared.row.Row.{Row}
 use Rattle.door.specs.declared.shown.Reliability.{Reliability}
@@ -28,6 +28,15 @@ abbrev pub secured_number : SecuredStatus → ℕ
 secured_number Secured = 0
 secured_number Unsecured = 1
 secured_number secured.Unknown = 2
+
+-- the one with a number, if there is one
+abbrev pub secured_numbered : ℕ → Option SecuredStatus
+secured_numbered n = cond (n == 0) (Some Secured) (cond (n == 1) (Some Unsecured) (cond (n == 2) (Some secured.Unknown) None))
+
+abbrev pub secured_status_name : SecuredStatus → List ℕ
+secured_status_name Secured = codes "SECURED"
+secured_status_name Unsecured = codes "UNSECURED"
+secured_status_name secured.Unknown = codes "UNKNOWN"
 
 -- IN_ALARM in bit 0, then FAULT, OVERRIDDEN, OUT_OF_SERVICE
 abbrev pub flags_number : StatusFlags → ℕ

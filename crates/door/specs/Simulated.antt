@@ -2,20 +2,11 @@
 use Rattle.std.specs.Prelude.{ℕ, Bool, false, cond, Some, None, Ok, Err, Option, Result, ◌==◌}
 use Rattle.board.specs.declared.refusal.Cause.{Cause}
 use Rattle.board.specs.declared.refusal.Cause.TheVariants.{ValueOutOfRange, NoSuchItem}
-use Rattle.board.specs.declared.status.DoorStatus.{DoorStatus}
-use Rattle.board.specs.declared.status.DoorStatus.TheVariants as door
-use Rattle.board.specs.declared.status.LockStatus.{LockStatus}
-use Rattle.board.specs.declared.status.LockStatus.TheVariants as lock
+use Rattle.board.specs.Status.{door_status_of, lock_status_of}
 use Rattle.events.specs.Alarm.{alarm_of, in_set}
 use Rattle.door_parts.specs.declared.settings.Settings.{Settings}
 use Rattle.door.specs.declared.simulated.Simulated.{Simulated}
 use Rattle.door.specs.declared.simulated.Simulated.TheVariants.{Door, Lock, Alarm}
-
-abbrev pub door_status_of : ℕ → Option DoorStatus
-door_status_of n = cond (n == 0) (Some door.Closed) (cond (n == 1) (Some door.Opened) (cond (n == 2) (Some door.Unknown) None))
-
-abbrev pub lock_status_of : ℕ → Option LockStatus
-lock_status_of n = cond (n == 0) (Some lock.Locked) (cond (n == 1) (Some lock.Unlocked) (cond (n == 2) (Some lock.Fault) (cond (n == 3) (Some lock.Unknown) None)))
 
 abbrev pub in_range : {X : Type 0} → Option X → (X → Simulated) → Result Simulated Cause
 in_range None f = Err ValueOutOfRange

@@ -1,23 +1,27 @@
-ghost use Rattle.std.specs.Prelude.{◌≡◌};
+ghost use Rattle.std.specs.Prelude.{◌≡◌, ok_or, Some};
+ghost use Rattle.board.specs.declared.refusal.Cause.TheVariants.{ValueOutOfRange};
+ghost use Rattle.door.specs.Shown.{secured_numbered, secured_status_name};
 ghost use Rattle.door.specs.Shown.{reliability_number, secured_number, flags_number, reliability_of, flags_of, secured_of, report_row};
 
 use crate::row::Row;
+use board::refusal::Cause;
 use board::status::{DoorStatus, LockStatus};
 use events::event::EventState;
+use std::fmt;
 
 /// Reliability of a door.
-#[derive(Clone, Copy)]
+#[derive(Clone, Copy, PartialEq, Eq)]
 pub enum Reliability {
-    NoFaultDetected,
-    MultiStateFault,
+    NoFaultDetected = 0,
+    MultiStateFault = 9,
 }
 
 /// Secured_Status of a door.
 #[derive(Clone, Copy)]
 pub enum SecuredStatus {
-    Secured,
-    Unsecured,
-    Unknown,
+    Secured = 0,
+    Unsecured = 1,
+    Unknown = 2,
 }
 
 /// Status_Flags of a door. OVERRIDDEN is always FALSE.
@@ -30,7 +34,7 @@ pub struct StatusFlags {
 }
 
 /// What a report tells of a door, as numbers.
-#[derive(Clone, Copy)]
+#[derive(Clone, Copy, PartialEq, Eq)]
 pub struct ReportRow {
     pub present_value: u8,
     pub status_flags: u8,
@@ -46,10 +50,7 @@ impl Reliability {
     pub fn number(self) -> u8
         ensures { result ≡ reliability_number self }
     {
-        match self {
-            Reliability::NoFaultDetected => 0,
-            Reliability::MultiStateFault => 9,
-        }
+        self as u8
     }
 }
 
@@ -57,11 +58,34 @@ impl SecuredStatus {
     pub fn number(self) -> u8
         ensures { result ≡ secured_number self }
     {
-        match self {
-            SecuredStatus::Secured => 0,
-            SecuredStatus::Unsecured => 1,
-            SecuredStatus::Unknown => 2,
+        self as u8
+    }
+}
+
+impl TryFrom<u64> for SecuredStatus {
+    type Error = Cause;
+
+    ghost try_from_gives = { λ number r. r ≡ ok_or (secured_numbered number) ValueOutOfRange };
+
+    fn try_from(number: u64) -> Result<SecuredStatus, Cause> {
+        match number {
+            0 => Ok(SecuredStatus::Secured),
+            1 => Ok(SecuredStatus::Unsecured),
+            2 => Ok(SecuredStatus::Unknown),
+            _ => Err(Cause::ValueOutOfRange),
         }
+    }
+}
+
+impl fmt::Display for SecuredStatus {
+    ghost output = { λ status. Some (secured_status_name status) };
+
+    fn fmt<W: fmt::Write>(&self, f: &mut fmt::Formatter<W>) -> fmt::Result {
+        f.write_str(match self {
+            SecuredStatus::Secured => "SECURED",
+            SecuredStatus::Unsecured => "UNSECURED",
+            SecuredStatus::Unknown => "UNKNOWN",
+        })
     }
 }
 
@@ -93,8 +117,8 @@ impl Row {
         ensures { result ≡ flags_of self.now }
     {
         StatusFlags {
-            in_alarm: !matches!(self.events.event_state, EventState::Normal),
-            fault: matches!(self.reliability(), Reliability::MultiStateFault),
+            in_alarm: self.events.event_state != EventState::Normal,
+            fault: self.reliability() == Reliability::MultiStateFault,
             overridden: false,
             out_of_service: self.out_of_service,
         }
@@ -103,7 +127,7 @@ impl Row {
     pub fn secured_status(&self) -> SecuredStatus
         ensures { result ≡ secured_of self.now }
     {
-        if !matches!(self.events.event_state, EventState::Normal)
+        if self.events.event_state != EventState::Normal
             || self.settings.masked_alarm_values != 0
             || !self.commanded.present_value.is_lock()
         {

@@ -4,8 +4,9 @@ use Rattle.board.specs.declared.status.Output.{Output}
 use Rattle.board.specs.declared.status.Output.TheVariants.{Held, Released}
 use Rattle.slots.specs.declared.value.DoorValue.{DoorValue}
 use Rattle.slots.specs.declared.value.DoorValue.TheVariants.{Lock, Unlock, PulseUnlock, ExtendedPulseUnlock}
-use Rattle.slots.specs.declared.slots.Timed.{Timed}
-use Rattle.slots.specs.Slots.{none_filled, written_at, before, door_present, any_filled, fallen, stored}
+use Rattle.slots.specs.declared.timed.Timed.{Timed}
+use Rattle.slots.specs.PriorityArray.{none_filled, written_at, before, any_filled}
+use Rattle.slots.specs.Timed.{door_present, fallen, stored}
 use Rattle.slots.specs.Value.{is_lock, is_pulse}
 use Rattle.door_parts.specs.declared.commanded.Commanded.{Commanded}
 use Rattle.door_parts.specs.declared.settings.Settings.{Settings}

@@ -1,17 +1,18 @@
 ghost use Rattle.std.specs.Prelude.{◌≡◌};
-ghost use Rattle.slots.specs.Slots.{stored, pulse_stored};
+ghost use Rattle.slots.specs.Timed.{stored, pulse_stored};
 ghost use Rattle.door_parts.specs.Commanded.{commanded_at_making, output_for, delay_after, settled_command, written, ticked_command};
 
 use crate::settings::Settings;
 use board::status::Output;
-use slots::slots::{Slots, Timed};
+use slots::priority_array::PriorityArray;
+use slots::timed::Timed;
 use slots::value::DoorValue;
 
 /// What follows from commands, settings, service and ticks, with no contact and no reading: the slots, the value that rules them, how long a pulse still waits before
 /// it releases, and what the output is driven to.
 #[derive(Clone, Copy)]
 pub struct Commanded {
-    pub slots: Slots,
+    pub slots: PriorityArray<Timed>,
     pub present_value: DoorValue,
     pub delay_left: u32,
     pub output: Output,
@@ -86,7 +87,7 @@ impl Commanded {
         ensures { result ≡ commanded_at_making }
     {
         Commanded {
-            slots: Slots::empty(),
+            slots: PriorityArray::empty(),
             present_value: DoorValue::Lock,
             delay_left: 0,
             output: Output::Held,
@@ -97,7 +98,7 @@ impl Commanded {
     pub fn settled(self, settings: &Settings, out_of_service: bool) -> Commanded
         ensures { result ≡ settled_command self settings.now out_of_service }
     {
-        let present_value = self.slots.present(settings.relinquish_default);
+        let present_value = self.slots.present_value(settings.relinquish_default);
         let delay_left = delay_after(
             self.present_value,
             present_value,

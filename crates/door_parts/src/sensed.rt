@@ -1,5 +1,5 @@
 ghost use Rattle.std.specs.Prelude.{◌≡◌};
-ghost use Rattle.door_parts.specs.Sensed.{sensed_at_making, is_opened, is_fault, one_more, with_status, with_lock, with_alarm, counted_open, open_under, alarm_of_door, alarm_kept, settled_sense, held_longer};
+ghost use Rattle.door_parts.specs.Sensed.{sensed_at_making, one_more, with_status, with_lock, with_alarm, counted_open, open_under, alarm_of_door, alarm_kept, settled_sense, held_longer};
 ghost use Rattle.door_parts.specs.Sensed.{shows as shows_alarm};
 
 use crate::settings::Settings;
@@ -17,18 +17,6 @@ pub struct Sensed {
     pub open_count: u32,
     pub alarm_state: AlarmState,
     pub held_count: u32,
-}
-
-fn is_opened(status: DoorStatus) -> bool
-    ensures { result ≡ is_opened status }
-{
-    matches!(status, DoorStatus::Opened)
-}
-
-fn is_fault(status: LockStatus) -> bool
-    ensures { result ≡ is_fault status }
-{
-    matches!(status, LockStatus::Fault)
 }
 
 /// Counts stop at a day of tenths.
@@ -62,7 +50,7 @@ impl Sensed {
     pub fn with_status(self, present_value: DoorValue, status: DoorStatus) -> Sensed
         ensures { result ≡ with_status self present_value status }
     {
-        if !is_opened(status) {
+        if status != DoorStatus::Opened {
             return Sensed {
                 door_status: status,
                 forced: false,
@@ -70,7 +58,7 @@ impl Sensed {
                 ..self
             };
         }
-        if is_opened(self.door_status) {
+        if self.door_status == DoorStatus::Opened {
             return Sensed {
                 door_status: status,
                 ..self
@@ -106,7 +94,7 @@ impl Sensed {
     pub fn counted_open(self, was_open_under_lock: bool) -> Sensed
         ensures { result ≡ counted_open self was_open_under_lock }
     {
-        if was_open_under_lock && is_opened(self.door_status) {
+        if was_open_under_lock && self.door_status == DoorStatus::Opened {
             return Sensed {
                 open_count: one_more(self.open_count),
                 ..self
@@ -119,14 +107,18 @@ impl Sensed {
     pub fn is_open_under(&self, present_value: DoorValue) -> bool
         ensures { result ≡ open_under self.now present_value }
     {
-        is_opened(self.door_status) && present_value.is_lock()
+        self.door_status == DoorStatus::Opened && present_value.is_lock()
     }
 
     /// The first alarm that holds and is not masked.
     fn alarm_under(&self, settings: &Settings, present_value: DoorValue) -> AlarmState
         ensures { result ≡ alarm_of_door settings.now self.now.lock_status self.now.door_status present_value self.now.forced self.now.open_count }
     {
-        if shows(settings, AlarmState::DoorFault, is_fault(self.lock_status)) {
+        if shows(
+            settings,
+            AlarmState::DoorFault,
+            self.lock_status == LockStatus::Fault,
+        ) {
             return AlarmState::DoorFault;
         }
         if shows(settings, AlarmState::ForcedOpen, self.forced) {

@@ -1,4 +1,5 @@
-ghost use Rattle.std.specs.Prelude.{◌≡◌};
+ghost use Rattle.std.specs.Prelude.{◌≡◌, ok_or};
+ghost use Rattle.board.specs.declared.refusal.Cause.TheVariants.{NoSuchItem};
 ghost use Rattle.door_parts.specs.Settings.{item_number, item_of, settings_at_making, number_answer, set_of_answer, default_answer, set_answer, set_item_answer};
 
 use board::refusal::Cause;
@@ -7,18 +8,19 @@ use slots::value::DoorValue;
 /// What can be set of a door, by its BACnet property.
 #[derive(Clone, Copy)]
 pub enum Item {
-    AlarmValues,
-    EventEnable,
-    FaultValues,
-    RelinquishDefault,
-    TimeDelay,
-    DoorExtendedPulseTime,
-    DoorOpenTooLongTime,
-    DoorPulseTime,
-    DoorUnlockDelayTime,
-    MaskedAlarmValues,
+    AlarmValues = 7,
+    EventEnable = 35,
+    FaultValues = 39,
+    RelinquishDefault = 104,
+    TimeDelay = 113,
+    DoorExtendedPulseTime = 227,
+    DoorOpenTooLongTime = 229,
+    DoorPulseTime = 230,
+    DoorUnlockDelayTime = 232,
+    MaskedAlarmValues = 234,
 }
 
+// The sets are numbers, bit strings of BACnet, as a set call is given them.
 /// The settings of a door. The four times are in tenths, Time_Delay is in seconds; of the three sets of alarm states,
 /// bit k is the state with number k; of Event_Enable, bit 0 is TO-OFFNORMAL, 1 TO-FAULT, 2 TO-NORMAL.
 #[derive(Clone, Copy)]
@@ -39,36 +41,28 @@ impl Item {
     pub fn number(self) -> u8
         ensures { result ≡ item_number self }
     {
-        match self {
-            Item::AlarmValues => 7,
-            Item::EventEnable => 35,
-            Item::FaultValues => 39,
-            Item::RelinquishDefault => 104,
-            Item::TimeDelay => 113,
-            Item::DoorExtendedPulseTime => 227,
-            Item::DoorOpenTooLongTime => 229,
-            Item::DoorPulseTime => 230,
-            Item::DoorUnlockDelayTime => 232,
-            Item::MaskedAlarmValues => 234,
-        }
+        self as u8
     }
+}
 
-    /// The item with that number, if there is one.
-    pub fn of_number(number: u64) -> Option<Item>
-        ensures { result ≡ item_of number }
-    {
+impl TryFrom<u64> for Item {
+    type Error = Cause;
+
+    ghost try_from_gives = { λ number r. r ≡ ok_or (item_of number) NoSuchItem };
+
+    fn try_from(number: u64) -> Result<Item, Cause> {
         match number {
-            7 => Some(Item::AlarmValues),
-            35 => Some(Item::EventEnable),
-            39 => Some(Item::FaultValues),
-            104 => Some(Item::RelinquishDefault),
-            113 => Some(Item::TimeDelay),
-            227 => Some(Item::DoorExtendedPulseTime),
-            229 => Some(Item::DoorOpenTooLongTime),
-            230 => Some(Item::DoorPulseTime),
-            232 => Some(Item::DoorUnlockDelayTime),
-            234 => Some(Item::MaskedAlarmValues),
-            _ => None,
+            7 => Ok(Item::AlarmValues),
+            35 => Ok(Item::EventEnable),
+            39 => Ok(Item::FaultValues),
+            104 => Ok(Item::RelinquishDefault),
+            113 => Ok(Item::TimeDelay),
+            227 => Ok(Item::DoorExtendedPulseTime),
+            229 => Ok(Item::DoorOpenTooLongTime),
+            230 => Ok(Item::DoorPulseTime),
+            232 => Ok(Item::DoorUnlockDelayTime),
+            234 => Ok(Item::MaskedAlarmValues),
+            _ => Err(Cause::NoSuchItem),
         }
     }
 }
@@ -97,21 +91,11 @@ fn set_of(number: u64) -> Result<u16, Cause>
 fn default_of(number: u64) -> Result<DoorValue, Cause>
     ensures { result ≡ default_answer number }
 {
-    match number {
-        0 => Ok(DoorValue::Lock),
-        1 => Ok(DoorValue::Unlock),
-        _ => Err(Cause::ValueOutOfRange),
-    }
-}
-
-/// Which transitions are enabled: three bits.
-fn enable_of(number: u64) -> Result<u8, Cause>
-    ensures { result ≡ number_answer 7 number }
-{
-    if number > 7 {
+    let value = DoorValue::try_from(number)?;
+    if value.is_pulse() {
         return Err(Cause::ValueOutOfRange);
     }
-    Ok(number as u8)
+    Ok(value)
 }
 
 impl Settings {
@@ -136,48 +120,22 @@ impl Settings {
     fn with(self, item: Item, number: u64) -> Result<Settings, Cause>
         ensures { result ≡ set_answer self item number }
     {
-        let changed = match item {
-            Item::AlarmValues => Settings {
-                alarm_values: set_of(number)?,
-                ..self
-            },
-            Item::EventEnable => Settings {
-                event_enable: enable_of(number)?,
-                ..self
-            },
-            Item::FaultValues => Settings {
-                fault_values: set_of(number)?,
-                ..self
-            },
-            Item::RelinquishDefault => Settings {
-                relinquish_default: default_of(number)?,
-                ..self
-            },
-            Item::TimeDelay => Settings {
-                time_delay: up_to(86_400, number)?,
-                ..self
-            },
-            Item::DoorExtendedPulseTime => Settings {
-                door_extended_pulse_time: up_to(864_000, number)?,
-                ..self
-            },
-            Item::DoorOpenTooLongTime => Settings {
-                door_open_too_long_time: up_to(864_000, number)?,
-                ..self
-            },
-            Item::DoorPulseTime => Settings {
-                door_pulse_time: up_to(864_000, number)?,
-                ..self
-            },
-            Item::DoorUnlockDelayTime => Settings {
-                door_unlock_delay_time: up_to(864_000, number)?,
-                ..self
-            },
-            Item::MaskedAlarmValues => Settings {
-                masked_alarm_values: set_of(number)?,
-                ..self
-            },
-        };
+        let mut changed = self;
+        match item {
+            Item::AlarmValues => changed.alarm_values = set_of(number)?,
+            // Three bits, one for each transition.
+            Item::EventEnable => changed.event_enable = up_to(7, number)? as u8,
+            Item::FaultValues => changed.fault_values = set_of(number)?,
+            Item::RelinquishDefault => changed.relinquish_default = default_of(number)?,
+            Item::TimeDelay => changed.time_delay = up_to(86_400, number)?,
+            Item::DoorExtendedPulseTime => changed.door_extended_pulse_time = up_to(
+                864_000, number,
+            )?,
+            Item::DoorOpenTooLongTime => changed.door_open_too_long_time = up_to(864_000, number)?,
+            Item::DoorPulseTime => changed.door_pulse_time = up_to(864_000, number)?,
+            Item::DoorUnlockDelayTime => changed.door_unlock_delay_time = up_to(864_000, number)?,
+            Item::MaskedAlarmValues => changed.masked_alarm_values = set_of(number)?,
+        }
         Ok(changed)
     }
 
@@ -185,9 +143,6 @@ impl Settings {
     pub fn set(self, item: u64, number: u64) -> Result<Settings, Cause>
         ensures { result ≡ set_item_answer self item number }
     {
-        match Item::of_number(item) {
-            Some(known) => self.with(known, number),
-            None => Err(Cause::NoSuchItem),
-        }
+        self.with(Item::try_from(item)?, number)
     }
 }

@@ -1,4 +1,4 @@
-use crate::fixture::{Bench, LOCK, PULSE, READINGS, UNLOCK};
+use crate::fixture::{Bench, LOCK, PULSE, READINGS, UNLOCK, refused};
 use board::refusal::Cause;
 use board::status::{DoorStatus, LockStatus};
 use std::process::Abort;
@@ -121,7 +121,7 @@ fn sets_have_bits_1_to_8(rt: HostRuntime) -> Result<(), Fail> {
             bench.set(item, 510)?;
             bench.set(item, 0)?;
             for number in [1u64, 511, 512, 65536, u64::MAX] {
-                bench.set_refused(&rt, item, number, Cause::ValueOutOfRange)?;
+                refused(&rt, bench.door()?.set(item, number), Cause::ValueOutOfRange)?;
             }
         }
     }
@@ -143,10 +143,14 @@ fn settings_have_ranges(rt: HostRuntime) -> Result<(), Fail> {
         ] {
             bench.set(item, 0)?;
             bench.set(item, most)?;
-            bench.set_refused(&rt, item, most.saturating_add(1), Cause::ValueOutOfRange)?;
+            refused(
+                &rt,
+                bench.door()?.set(item, most.saturating_add(1)),
+                Cause::ValueOutOfRange,
+            )?;
         }
         for item in [0u64, 6, 8, 226, 231, 233, 235, u64::MAX] {
-            bench.set_refused(&rt, item, u64::MAX, Cause::NoSuchItem)?;
+            refused(&rt, bench.door()?.set(item, u64::MAX), Cause::NoSuchItem)?;
         }
     }
     Ok(())

@@ -1,4 +1,4 @@
-use crate::fixture::{Bench, EXTENDED, LOCK, PULSE, READINGS, UNLOCK};
+use crate::fixture::{Bench, EXTENDED, LOCK, PULSE, READINGS, UNLOCK, refused};
 use board::refusal::Cause;
 use board::status::DoorStatus;
 use std::process::Abort;
@@ -15,12 +15,8 @@ fn rules(rt: &impl Abort, bench: &Bench, value: u8, output: u8) -> Result<(), Fa
 // Whether something stands at a priority.
 fn stands(rt: &impl Abort, bench: &Bench, priority: usize, wanted: bool) -> Result<(), Fail> {
     let slots = bench.row().commanded.slots.at;
-    let mut found = false;
-    for (i, slot) in slots.iter().enumerate() {
-        if i.saturating_add(1) == priority && slot.is_some() {
-            found = true;
-        }
-    }
+    let found = slots.iter().enumerate().any(|(i, slot)| i.saturating_add(1) == priority
+        && slot.is_some());
     assert_eq!(rt; found, wanted, "{}", priority);
     Ok(())
 }
@@ -51,11 +47,27 @@ fn bad_numbers_are_refused(rt: HostRuntime) -> Result<(), Fail> {
     for reading in READINGS {
         let bench = Bench::new(reading);
         for priority in [0u64, 6, 17, u64::MAX] {
-            bench.command_refused(&rt, priority, LOCK, Cause::NoSuchPriority)?;
-            bench.command_refused(&rt, priority, Some(9), Cause::NoSuchPriority)?;
+            refused(
+                &rt,
+                bench.door()?.command(priority, LOCK),
+                Cause::NoSuchPriority,
+            )?;
+            refused(
+                &rt,
+                bench.door()?.command(priority, Some(9)),
+                Cause::NoSuchPriority,
+            )?;
         }
-        bench.command_refused(&rt, 1, Some(4), Cause::ValueOutOfRange)?;
-        bench.command_refused(&rt, 16, Some(u64::MAX), Cause::ValueOutOfRange)?;
+        refused(
+            &rt,
+            bench.door()?.command(1, Some(4)),
+            Cause::ValueOutOfRange,
+        )?;
+        refused(
+            &rt,
+            bench.door()?.command(16, Some(u64::MAX)),
+            Cause::ValueOutOfRange,
+        )?;
     }
     Ok(())
 }

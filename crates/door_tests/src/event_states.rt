@@ -1,4 +1,4 @@
-use crate::fixture::{Bench, LOCK, READINGS, UNLOCK};
+use crate::fixture::{Bench, LOCK, READINGS, UNLOCK, refused};
 use board::refusal::Cause;
 use board::status::{DoorStatus, LockStatus};
 use std::process::Abort;
@@ -34,7 +34,7 @@ fn an_alarm_leads_to_offnormal_and_back(rt: HostRuntime) -> Result<(), Fail> {
         bench.acknowledge(0)?;
         bench.acknowledge(2)?;
         assert_eq!(rt; bench.row().events.acked.number(), 7);
-        bench.acknowledge_refused(&rt, 3, Cause::ValueOutOfRange)?;
+        refused(&rt, bench.door()?.acknowledge(3), Cause::ValueOutOfRange)?;
     }
     Ok(())
 }

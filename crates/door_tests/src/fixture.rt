@@ -2,7 +2,6 @@ use board::refusal::Cause;
 use board::status::{DoorStatus, LockStatus};
 use door::door::Door;
 use door::row::Row;
-use events::event::Transition;
 use std::process::Abort;
 use std::test::Fail;
 
@@ -38,21 +37,13 @@ impl Bench {
         self.row
     }
 
-    fn door(&self) -> Result<Door, Fail> {
-        match Door::from_row(self.row) {
-            Some(door) => Ok(door),
-            None => Err(Fail::new("no row of a door")),
-        }
+    pub(crate) fn door(&self) -> Result<Door, Fail> {
+        door_of(self.row)
     }
 
     fn store(&mut self, outcome: Result<Door, Cause>) -> Result<(), Fail> {
-        match outcome {
-            Ok(door) => {
-                self.row = door.into_row();
-                Ok(())
-            }
-            Err(cause) => Err(Fail::new(cause.number())),
-        }
+        self.row = accepted(outcome)?.into_row();
+        Ok(())
     }
 
     pub(crate) fn command(&mut self, priority: u64, value: Option<u64>) -> Result<(), Fail> {
@@ -80,75 +71,12 @@ impl Bench {
         self.store(outcome)
     }
 
-    // The cause for which a set call is refused.
-    pub(crate) fn set_refused(
-        &self,
-        rt: &impl Abort,
-        item: u64,
-        number: u64,
-        cause: Cause,
-    ) -> Result<(), Fail> {
-        let found = cause_of(self.door()?.set(item, number));
-        assert_eq!(rt; found, Some(cause), "item {item}, number {number}");
-        Ok(())
-    }
-
-    pub(crate) fn simulate_refused(
-        &self,
-        rt: &impl Abort,
-        item: u64,
-        number: u64,
-        cause: Cause,
-    ) -> Result<(), Fail> {
-        let found = cause_of(self.door()?.simulate(item, number));
-        assert_eq!(rt; found, Some(cause), "item {item}, number {number}");
-        Ok(())
-    }
-
-    pub(crate) fn command_refused(
-        &self,
-        rt: &impl Abort,
-        priority: u64,
-        value: Option<u64>,
-        cause: Cause,
-    ) -> Result<(), Fail> {
-        let found = cause_of(self.door()?.command(priority, value));
-        assert_eq!(rt; found, Some(cause), "priority {priority}");
-        Ok(())
-    }
-
-    pub(crate) fn service_refused(
-        &self,
-        rt: &impl Abort,
-        number: u64,
-        cause: Cause,
-    ) -> Result<(), Fail> {
-        let found = cause_of(self.door()?.service(number));
-        assert_eq!(rt; found, Some(cause), "number {number}");
-        Ok(())
-    }
-
-    pub(crate) fn acknowledge_refused(
-        &self,
-        rt: &impl Abort,
-        number: u64,
-        cause: Cause,
-    ) -> Result<(), Fail> {
-        let found = cause_of(self.door()?.acknowledge(number));
-        assert_eq!(rt; found, Some(cause), "number {number}");
-        Ok(())
-    }
-
     // One tick with that contact, and the number of the transition, if there was one.
     pub(crate) fn tick(&mut self, contact: DoorStatus) -> Result<Option<u8>, Fail> {
         self.tenth = self.tenth.saturating_add(1);
-        match self.door()?.tick(contact, self.reading, self.tenth) {
-            Ok(ticked) => {
-                self.row = ticked.door.into_row();
-                Ok(number_of(ticked.transition))
-            }
-            Err(cause) => Err(Fail::new(cause.number())),
-        }
+        let ticked = accepted(self.door()?.tick(contact, self.reading, self.tenth))?;
+        self.row = ticked.door.into_row();
+        Ok(ticked.transition.map(|transition| transition.number()))
     }
 
     pub(crate) fn ticks(&mut self, count: u32, contact: DoorStatus) -> Result<(), Fail> {
@@ -163,17 +91,21 @@ impl Bench {
     }
 }
 
-fn number_of(transition: Option<Transition>) -> Option<u8> {
-    match transition {
-        Some(t) => Some(t.number()),
-        None => None,
-    }
+pub(crate) fn door_of(row: Row) -> Result<Door, Fail> {
+    Door::from_row(row).ok_or_else(|| Fail::new("no row of a door"))
 }
 
-// The cause of a refused call, or none where the call was accepted.
-fn cause_of(outcome: Result<Door, Cause>) -> Option<Cause> {
-    match outcome {
-        Ok(_) => None,
-        Err(cause) => Some(cause),
-    }
+// What an accepted call gave; a refused one fails the test by its number.
+pub(crate) fn accepted<T: Drop>(outcome: Result<T, Cause>) -> Result<T, Fail> {
+    outcome.map_err(|cause| Fail::new(cause.number()))
+}
+
+// A call is refused for that cause.
+pub(crate) fn refused<T: Drop>(
+    rt: &impl Abort,
+    outcome: Result<T, Cause>,
+    wanted: Cause,
+) -> Result<(), Fail> {
+    assert_eq!(rt; outcome.err(), Some(wanted));
+    Ok(())
 }

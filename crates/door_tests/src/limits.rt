@@ -1,34 +1,17 @@
+use crate::fixture::{accepted, door_of, refused};
 use board::refusal::Cause;
 use board::status::{DoorStatus, LockStatus};
-use door::door::{Door, Ticked};
+use door::door::Door;
 use door::row::Row;
 use door_parts::sensed::Sensed;
 use door_parts::settings::Settings;
-use slots::slots::Timed;
+use slots::timed::Timed;
 use slots::value::DoorValue;
 use std::test::*;
 
-fn tick(row: Row, contact: DoorStatus) -> Result<Result<Row, Cause>, Fail> {
-    let Some(door) = Door::from_row(row) else {
-        return Err(Fail::new("no row of a door"));
-    };
-    match door.tick(contact, LockStatus::Unknown, 7) {
-        Ok(ticked) => {
-            let Ticked {
-                door,
-                transition: _,
-            } = ticked;
-            Ok(Ok(door.into_row()))
-        }
-        Err(cause) => Ok(Err(cause)),
-    }
-}
-
-fn accepted(row: Row, contact: DoorStatus) -> Result<Row, Fail> {
-    match tick(row, contact)? {
-        Ok(next) => Ok(next),
-        Err(cause) => Err(Fail::new(cause.number())),
-    }
+fn ticked(row: Row, contact: DoorStatus) -> Result<Row, Fail> {
+    let ticked = accepted(door_of(row)?.tick(contact, LockStatus::Unknown, 7))?;
+    Ok(ticked.door.into_row())
 }
 
 #[test]
@@ -79,7 +62,7 @@ fn counts_stop_at_864000(rt: HostRuntime) -> Result<(), Fail> {
         masked_alarm_values: 4,
         ..made.settings
     };
-    let once = accepted(
+    let once = ticked(
         Row {
             sensed,
             settings,
@@ -89,7 +72,7 @@ fn counts_stop_at_864000(rt: HostRuntime) -> Result<(), Fail> {
     )?;
     assert_eq!(rt; once.sensed.open_count, 864_000);
     assert_eq!(rt; once.sensed.held_count, 864_000);
-    let twice = accepted(once, DoorStatus::Opened)?;
+    let twice = ticked(once, DoorStatus::Opened)?;
     assert_eq!(rt; twice.sensed.open_count, 864_000);
     assert_eq!(rt; twice.sensed.held_count, 864_000);
     Ok(())
@@ -102,16 +85,17 @@ fn a_door_released_for_so_long_is_not_ticked(rt: HostRuntime) -> Result<(), Fail
         released_tenths: 2_000_000_000,
         ..made
     };
-    match tick(full, DoorStatus::Closed)? {
-        Ok(_) => return Err(Fail::new("accepted")),
-        Err(cause) => assert_eq!(rt; cause, Cause::LastTenth),
-    }
+    refused(
+        &rt,
+        door_of(full)?.tick(DoorStatus::Closed, LockStatus::Unknown, 7),
+        Cause::LastTenth,
+    )?;
     let nearly = Row {
         released_tenths: 1_999_999_999,
         ..made
     };
     assert_eq!(rt;
-        accepted(nearly, DoorStatus::Closed)?.released_tenths,
+        ticked(nearly, DoorStatus::Closed)?.released_tenths,
         1_999_999_999
     );
     Ok(())

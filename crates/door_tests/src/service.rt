@@ -1,4 +1,4 @@
-use crate::fixture::{Bench, PULSE, READINGS, UNLOCK};
+use crate::fixture::{Bench, PULSE, READINGS, UNLOCK, refused};
 use board::refusal::Cause;
 use board::status::DoorStatus;
 use std::test::*;
@@ -32,25 +32,32 @@ fn simulating_is_refused_in_order(rt: HostRuntime) -> Result<(), Fail> {
     for reading in READINGS {
         let mut bench = Bench::new(reading);
         bench.set(234, 16)?;
-        bench.simulate_refused(&rt, 230, 0, Cause::NoSuchItem)?;
-        bench.simulate_refused(&rt, 230, 99, Cause::NoSuchItem)?;
+        refused(&rt, bench.door()?.simulate(230, 0), Cause::NoSuchItem)?;
+        refused(&rt, bench.door()?.simulate(230, 99), Cause::NoSuchItem)?;
         for (item, number) in [(231u64, 3u64), (233, 4), (226, 9)] {
-            bench.simulate_refused(&rt, item, number, Cause::ValueOutOfRange)?;
-            bench.simulate_refused(
+            refused(
                 &rt,
-                item,
-                number.saturating_sub(1),
+                bench.door()?.simulate(item, number),
+                Cause::ValueOutOfRange,
+            )?;
+            refused(
+                &rt,
+                bench.door()?.simulate(item, number.saturating_sub(1)),
                 Cause::SimulateInService,
             )?;
         }
-        bench.simulate_refused(&rt, 226, 4, Cause::SimulateInService)?;
+        refused(
+            &rt,
+            bench.door()?.simulate(226, 4),
+            Cause::SimulateInService,
+        )?;
         bench.service(1)?;
-        bench.simulate_refused(&rt, 226, 4, Cause::AlarmStateMasked)?;
+        refused(&rt, bench.door()?.simulate(226, 4), Cause::AlarmStateMasked)?;
         bench.simulate(226, 8)?;
         assert_eq!(rt; bench.row().sensed.alarm_state.number(), 8);
         bench.set(234, 256)?;
         assert_eq!(rt; bench.row().sensed.alarm_state.number(), 0);
-        bench.service_refused(&rt, 2, Cause::ValueOutOfRange)?;
+        refused(&rt, bench.door()?.service(2), Cause::ValueOutOfRange)?;
     }
     Ok(())
 }

@@ -1,29 +1,10 @@
+use crate::fixture::{accepted, refused};
 use board::refusal::Cause;
 use slots::sounder::Sounder;
-use std::process::Abort;
 use std::test::*;
 
 fn after(sounder: Sounder, priority: u64, value: Option<u64>) -> Result<Sounder, Fail> {
-    match sounder.command(priority, value) {
-        Ok(next) => Ok(next),
-        Err(cause) => Err(Fail::new(cause.number())),
-    }
-}
-
-fn refused(
-    rt: &impl Abort,
-    sounder: Sounder,
-    priority: u64,
-    value: Option<u64>,
-    wanted: Cause,
-) -> Result<(), Fail> {
-    match sounder.command(priority, value) {
-        Ok(_) => Err(Fail::new("accepted")),
-        Err(cause) => {
-            assert_eq!(rt; cause, wanted);
-            Ok(())
-        },
-    }
+    accepted(sounder.command(priority, value))
 }
 
 #[test]
@@ -36,7 +17,7 @@ fn the_same_rule_serves_the_sounder(rt: HostRuntime) -> Result<(), Fail> {
     assert_eq!(rt; silenced.present().number(), 0);
     let again = after(silenced, 1, None)?;
     assert_eq!(rt; again.present().number(), 1);
-    refused(&rt, made, 6, Some(1), Cause::NoSuchPriority)?;
-    refused(&rt, made, 17, Some(2), Cause::NoSuchPriority)?;
-    refused(&rt, made, 5, Some(2), Cause::ValueOutOfRange)
+    refused(&rt, made.command(6, Some(1)), Cause::NoSuchPriority)?;
+    refused(&rt, made.command(17, Some(2)), Cause::NoSuchPriority)?;
+    refused(&rt, made.command(5, Some(2)), Cause::ValueOutOfRange)
 }

@@ -1,5 +1,5 @@
--- Alarm states: their numbers, and sets of them. Assumes nothing.
-use Rattle.std.specs.Prelude.{ℕ, ◌^◌, Bool, cond, not, Some, None, Option, ◌==◌, bit_and}
+-- Alarm states: their numbers and names, and sets of them. Assumes nothing.
+use Rattle.std.specs.Prelude.{ℕ, ◌^◌, Bool, cond, not, List, codes, Some, None, Option, ◌==◌, bit_and}
 use Rattle.events.specs.declared.alarm.AlarmState.{AlarmState}
 use Rattle.events.specs.declared.alarm.AlarmState.TheVariants.{Normal, Alarm, DoorOpenTooLong, ForcedOpen, Tamper, DoorFault, LockDown, FreeAccess, EgressOpen}
 
@@ -26,6 +26,17 @@ alarm_of n =
     (cond (n == 7) (Some FreeAccess)
     (cond (n == 8) (Some EgressOpen)
     None))))))))
+
+abbrev pub alarm_state_name : AlarmState → List ℕ
+alarm_state_name Normal = codes "NORMAL"
+alarm_state_name Alarm = codes "ALARM"
+alarm_state_name DoorOpenTooLong = codes "DOOR_OPEN_TOO_LONG"
+alarm_state_name ForcedOpen = codes "FORCED_OPEN"
+alarm_state_name Tamper = codes "TAMPER"
+alarm_state_name DoorFault = codes "DOOR_FAULT"
+alarm_state_name LockDown = codes "LOCK_DOWN"
+alarm_state_name FreeAccess = codes "FREE_ACCESS"
+alarm_state_name EgressOpen = codes "EGRESS_OPEN"
 
 -- in a set of alarm states, bit k is the state with number k
 abbrev pub alarm_bit : AlarmState → ℕ

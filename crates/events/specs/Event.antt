@@ -1,5 +1,5 @@
 -- Events: the states, the step on state and alarm together, and transitions. Assumes nothing.
-use Rattle.std.specs.Prelude.{ℕ, ◌+◌, ◌*◌, ◌^◌, Bool, true, cond, not, Some, None, Option, ◌==◌, bit_and, nat_le}
+use Rattle.std.specs.Prelude.{ℕ, ◌*◌, ◌^◌, Bool, true, cond, not, Some, None, Option, ◌==◌, bit_and, nat_le}
 use Rattle.events.specs.declared.alarm.AlarmState.{AlarmState}
 use Rattle.events.specs.declared.event.EventState.{EventState}
 use Rattle.events.specs.declared.event.EventState.TheVariants.{Normal, Fault, Offnormal}
@@ -7,20 +7,14 @@ use Rattle.events.specs.declared.event.Transition.{Transition}
 use Rattle.events.specs.declared.event.Transition.TheVariants.{ToOffnormal, ToFault, ToNormal}
 use Rattle.events.specs.declared.event.Class.{Class}
 use Rattle.events.specs.declared.event.Class.TheVariants.{FaultValue, AlarmValue, NeitherValue}
-use Rattle.events.specs.declared.event.Acked.{Acked}
-use Rattle.events.specs.declared.event.Stamps.{Stamps}
 use Rattle.events.specs.declared.event.Events.{Events}
 use Rattle.events.specs.Alarm.{in_set}
+use Rattle.events.specs.PerTransition.{transition_number, with_transition}
 
 abbrev pub event_number : EventState → ℕ
 event_number Normal = 0
 event_number Fault = 1
 event_number Offnormal = 2
-
-abbrev pub transition_number : Transition → ℕ
-transition_number ToOffnormal = 0
-transition_number ToFault = 1
-transition_number ToNormal = 2
 
 -- a value in both sets is a fault value
 abbrev pub class_of : AlarmState → ℕ → ℕ → Class
@@ -63,30 +57,6 @@ transition_bit t = 2 ^ transition_number t
 abbrev pub enabled : ℕ → Transition → Bool
 enabled e t = not (bit_and e (transition_bit t) == 0)
 
-abbrev pub bit_number : Bool → ℕ → ℕ
-bit_number b n = cond b n 0
-
-abbrev pub acked_number : Acked → ℕ
-acked_number a = bit_number a.to_offnormal 1 + bit_number a.to_fault 2 + bit_number a.to_normal 4
-
--- the entry of t is the new one, the others stay
-abbrev pub if_transition : {X : Type 0} → Transition → Transition → X → X → X
-if_transition t u new old = cond (transition_number t == transition_number u) new old
-
-abbrev pub with_acked : Acked → Transition → Bool → Acked
-with_acked a t b = record {
-  to_offnormal = if_transition t ToOffnormal b a.to_offnormal;
-  to_fault = if_transition t ToFault b a.to_fault;
-  to_normal = if_transition t ToNormal b a.to_normal;
-}
-
-abbrev pub with_stamp : Stamps → Transition → ℕ → Stamps
-with_stamp s t n = record {
-  to_offnormal = if_transition t ToOffnormal n s.to_offnormal;
-  to_fault = if_transition t ToFault n s.to_fault;
-  to_normal = if_transition t ToNormal n s.to_normal;
-}
-
 abbrev pub events_at_making : Events
 events_at_making = record {
   event_state = Normal;
@@ -95,15 +65,15 @@ events_at_making = record {
 }
 
 abbrev pub acknowledged : Events → Transition → Events
-acknowledged v t = record { event_state = v.event_state; acked = with_acked v.acked t true; stamps = v.stamps }
+acknowledged v t = record { event_state = v.event_state; acked = with_transition v.acked t true; stamps = v.stamps }
 
 -- a transition that is enabled is stamped with the tenth and is no longer acknowledged; another counts as acknowledged
 abbrev pub noted : Events → EventState → ℕ → ℕ → Option Transition → Events
 noted v next e tenth None = v
 noted v next e tenth (Some t) = record {
   event_state = next;
-  acked = with_acked v.acked t (not (enabled e t));
-  stamps = cond (enabled e t) (with_stamp v.stamps t tenth) v.stamps;
+  acked = with_transition v.acked t (not (enabled e t));
+  stamps = cond (enabled e t) (with_transition v.stamps t tenth) v.stamps;
 }
 
 abbrev pub stepped : Events → EventState → ℕ → ℕ → Events

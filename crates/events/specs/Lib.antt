@@ -1,2 +1,3 @@
 pub mod Alarm
+pub mod PerTransition
 pub mod Event

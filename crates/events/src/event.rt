@@ -1,23 +1,27 @@
-ghost use Rattle.std.specs.Prelude.{◌≡◌};
-ghost use Rattle.events.specs.Event.{event_number, transition_number, transition_numbered, transition_bit, enabled, class_of, event_after, transition_of};
-ghost use Rattle.events.specs.Event.{acked_number, with_acked, with_stamp, events_at_making, acknowledged, stepped};
+ghost use Rattle.std.specs.Prelude.{◌≡◌, ok_or};
+ghost use Rattle.events.specs.Event.{event_number, transition_numbered, transition_bit, enabled, class_of, event_after, transition_of};
+ghost use Rattle.events.specs.PerTransition.{transition_number};
+ghost use Rattle.events.specs.Event.{events_at_making, acknowledged, stepped};
+ghost use Rattle.board.specs.declared.refusal.Cause.TheVariants.{ValueOutOfRange};
 
 use crate::alarm::AlarmState;
+use crate::per_transition::PerTransition;
+use board::refusal::Cause;
 
 /// Event_State of a door.
-#[derive(Clone, Copy)]
+#[derive(Clone, Copy, PartialEq, Eq)]
 pub enum EventState {
-    Normal,
-    Fault,
-    Offnormal,
+    Normal = 0,
+    Fault = 1,
+    Offnormal = 2,
 }
 
 /// A change of Event_State, named by where it leads.
 #[derive(Clone, Copy)]
 pub enum Transition {
-    ToOffnormal,
-    ToFault,
-    ToNormal,
+    ToOffnormal = 0,
+    ToFault = 1,
+    ToNormal = 2,
 }
 
 /// What an alarm state is to a door's two sets. One that is in both is a fault value.
@@ -32,11 +36,7 @@ impl EventState {
     pub fn number(self) -> u8
         ensures { result ≡ event_number self }
     {
-        match self {
-            EventState::Normal => 0,
-            EventState::Fault => 1,
-            EventState::Offnormal => 2,
-        }
+        self as u8
     }
 
     /// The event step: where an alarm state that has been held for so many ticks leads, under a delay in seconds.
@@ -58,18 +58,14 @@ impl EventState {
     pub fn transition(self, next: EventState) -> Option<Transition>
         ensures { result ≡ transition_of self next }
     {
-        match (self, next) {
-            (EventState::Fault | EventState::Offnormal, EventState::Normal) => Some(
-                Transition::ToNormal,
-            ),
-            (EventState::Normal | EventState::Offnormal, EventState::Fault) => Some(
-                Transition::ToFault,
-            ),
-            (EventState::Normal | EventState::Fault, EventState::Offnormal) => Some(
-                Transition::ToOffnormal,
-            ),
-            _ => None,
+        if self == next {
+            return None;
         }
+        Some(match next {
+            EventState::Normal => Transition::ToNormal,
+            EventState::Fault => Transition::ToFault,
+            EventState::Offnormal => Transition::ToOffnormal,
+        })
     }
 }
 
@@ -77,33 +73,13 @@ impl Transition {
     pub fn number(self) -> u8
         ensures { result ≡ transition_number self }
     {
-        match self {
-            Transition::ToOffnormal => 0,
-            Transition::ToFault => 1,
-            Transition::ToNormal => 2,
-        }
-    }
-
-    /// The transition with that number, if there is one.
-    pub fn of_number(number: u64) -> Option<Transition>
-        ensures { result ≡ transition_numbered number }
-    {
-        match number {
-            0 => Some(Transition::ToOffnormal),
-            1 => Some(Transition::ToFault),
-            2 => Some(Transition::ToNormal),
-            _ => None,
-        }
+        self as u8
     }
 
     fn bit(self) -> u8
         ensures { result ≡ transition_bit self }
     {
-        match self {
-            Transition::ToOffnormal => 1,
-            Transition::ToFault => 2,
-            Transition::ToNormal => 4,
-        }
+        1 << self.number()
     }
 
     /// Whether Event_Enable has this transition.
@@ -111,6 +87,21 @@ impl Transition {
         ensures { result ≡ enabled event_enable self }
     {
         event_enable & self.bit() != 0
+    }
+}
+
+impl TryFrom<u64> for Transition {
+    type Error = Cause;
+
+    ghost try_from_gives = { λ number r. r ≡ ok_or (transition_numbered number) ValueOutOfRange };
+
+    fn try_from(number: u64) -> Result<Transition, Cause> {
+        match number {
+            0 => Ok(Transition::ToOffnormal),
+            1 => Ok(Transition::ToFault),
+            2 => Ok(Transition::ToNormal),
+            _ => Err(Cause::ValueOutOfRange),
+        }
     }
 }
 
@@ -127,77 +118,13 @@ pub fn class_of(alarm: AlarmState, alarm_values: u16, fault_values: u16) -> Clas
     }
 }
 
-/// Of each transition, when it last happened while it was enabled, in tenths; 0 before the first.
-#[derive(Clone, Copy)]
-pub struct Stamps {
-    pub to_offnormal: u32,
-    pub to_fault: u32,
-    pub to_normal: u32,
-}
-
-/// Acked_Transitions: of each transition, whether it is acknowledged.
-#[derive(Clone, Copy)]
-pub struct Acked {
-    pub to_offnormal: bool,
-    pub to_fault: bool,
-    pub to_normal: bool,
-}
-
-/// A door's events: its state, which transitions are acknowledged, and when they happened.
+/// A door's events: its state, which transitions are acknowledged (Acked_Transitions), and when each last happened while
+/// it was enabled, in tenths; 0 before the first.
 #[derive(Clone, Copy)]
 pub struct Events {
     pub event_state: EventState,
-    pub acked: Acked,
-    pub stamps: Stamps,
-}
-
-impl Acked {
-    /// The three bits as a number: bit 0 TO-OFFNORMAL, 1 TO-FAULT, 2 TO-NORMAL.
-    pub fn number(&self) -> u8
-        ensures { result ≡ acked_number self.now }
-    {
-        u8::from(self.to_offnormal) + 2 * u8::from(self.to_fault) + 4 * u8::from(self.to_normal)
-    }
-
-    pub fn with(self, transition: Transition, acknowledged: bool) -> Acked
-        ensures { result ≡ with_acked self transition acknowledged }
-    {
-        match transition {
-            Transition::ToOffnormal => Acked {
-                to_offnormal: acknowledged,
-                ..self
-            },
-            Transition::ToFault => Acked {
-                to_fault: acknowledged,
-                ..self
-            },
-            Transition::ToNormal => Acked {
-                to_normal: acknowledged,
-                ..self
-            },
-        }
-    }
-}
-
-impl Stamps {
-    fn with(self, transition: Transition, tenth: u32) -> Stamps
-        ensures { result ≡ with_stamp self transition tenth }
-    {
-        match transition {
-            Transition::ToOffnormal => Stamps {
-                to_offnormal: tenth,
-                ..self
-            },
-            Transition::ToFault => Stamps {
-                to_fault: tenth,
-                ..self
-            },
-            Transition::ToNormal => Stamps {
-                to_normal: tenth,
-                ..self
-            },
-        }
-    }
+    pub acked: PerTransition<bool>,
+    pub stamps: PerTransition<u32>,
 }
 
 impl Events {
@@ -207,12 +134,12 @@ impl Events {
     {
         Events {
             event_state: EventState::Normal,
-            acked: Acked {
+            acked: PerTransition {
                 to_offnormal: true,
                 to_fault: true,
                 to_normal: true,
             },
-            stamps: Stamps {
+            stamps: PerTransition {
                 to_offnormal: 0,
                 to_fault: 0,
                 to_normal: 0,
@@ -231,23 +158,18 @@ impl Events {
     pub fn stepped(self, next: EventState, event_enable: u8, tenth: u32) -> Events
         ensures { result ≡ stepped self next event_enable tenth }
     {
-        match self.event_state.transition(next) {
-            None => self,
-            Some(transition) => {
-                if transition.is_in(event_enable) {
-                    Events {
-                        event_state: next,
-                        acked: self.acked.with(transition, false),
-                        stamps: self.stamps.with(transition, tenth),
-                    }
-                } else {
-                    Events {
-                        event_state: next,
-                        acked: self.acked.with(transition, true),
-                        ..self
-                    }
-                }
-            }
+        let Some(transition) = self.event_state.transition(next) else {
+            return self;
+        };
+        let enabled = transition.is_in(event_enable);
+        Events {
+            event_state: next,
+            acked: self.acked.with(transition, !enabled),
+            stamps: if enabled {
+                self.stamps.with(transition, tenth)
+            } else {
+                self.stamps
+            },
         }
     }
 }

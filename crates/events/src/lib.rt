@@ -3,3 +3,4 @@
 
 pub mod alarm;
 pub mod event;
+pub mod per_transition;

@@ -15,25 +15,14 @@ use Rattle.door.specs.declared.simulated.Simulated.{Simulated}
 use Rattle.door.specs.declared.simulated.Simulated.TheVariants as simulated
 use Rattle.door.specs.Calls as door
 use Rattle.door.specs.Simulated.{simulated_of, masks}
-use Rattle.history.specs.Kept.{kept, MadeKept}
+use Rattle.history.specs.Kept.{kept, MadeKept, Same}
 use Rattle.history.specs.Views.{View, doors_of}
 use Rattle.history.specs.DoorCalls.{refused_at, outcome, stored, stored_memory, call_answer, call_after, call_memory}
 use Rattle.history.proofs.Rows.{kept_tenths, kept_bound, kept_from}
 
--- a call that is no tick leaves the released tenths of its row
-abbrev pub Same : Row → Result Row Cause → Type 0
-Same r (Ok q) = q.released_tenths ≡ r.released_tenths
-Same r (Err e) = Unit {0}
-
 same_then : {X : Type 0} (r : Row) (x : Result X Cause) (f : X → Result Row Cause) → ((a : X) → Same r (f a)) → Same r (door.then x f)
 same_then r (Ok a) f h = h a
 same_then r (Err e) f h = tt
-
-pub command_same : (r : Row) (p : ℕ) (x : Option ℕ) → Same r (door.command_answer r p x)
-command_same r p x = same_then r (slot_answer p) _ (λ i. same_then r (door.value_answer x) _ (λ w. refl))
-
-pub set_same : (r : Row) (i n : ℕ) → Same r (door.set_row_answer r i n)
-set_same r i n = same_then r (set_item_answer r.settings i n) _ (λ s. refl)
 
 written_same : (r : Row) (x : Simulated) → Same r (door.done r (door.with_simulated r x))
 written_same r (simulated.Door c) = refl
@@ -50,16 +39,6 @@ out_same r x false b e f = tt
 
 pub simulate_same : (r : Row) (i n : ℕ) → Same r (door.simulate_answer r i n)
 simulate_same r i n = same_then r (simulated_of i n) _ (λ x. out_same r x r.out_of_service (masks r.settings x) _ _)
-
-pub service_same : (r : Row) (n : ℕ) → Same r (door.service_answer r n)
-service_same r n = same_then r (door.out_answer n) _ (λ out. refl)
-
-known_same : (r : Row) (t : Option Transition) → Same r (door.acknowledge_known r t)
-known_same r None = tt
-known_same r (Some t) = refl
-
-pub acknowledge_same : (r : Row) (n : ℕ) → Same r (door.acknowledge_answer r n)
-acknowledge_same r n = known_same r (transition_numbered n)
 
 -- so a door that such a call made can be stored
 pub stays_kept : (t : ℕ) (old r : Row) (o : Result Door Cause) (x : Result Row Cause) → kept t old ≡ true → r ≡ old → door.row_of o ≡ x → Same r x → MadeKept t (door.row_of o)

@@ -95,14 +95,6 @@ pub stepped_row : (i : ℕ) (v : View) (j : ℕ) → i ≤ j → row_at (doors_s
 stepped_row zero v j l = refl
 stepped_row (suc i) v j l = let ne : j ≢ i = omega arith in step_row (doors_stepped i v) i j ne ∙ stepped_row i v j (omega arith)
 
--- one door more
-pub step_more : (i : ℕ) (v w u : View) → w ≡ doors_stepped i v → u ≡ door_stepped w i → u ≡ doors_stepped (i + 1) v
-step_more i v w u e f = f ∙ ap (λ x. door_stepped x i) e ∙ ap (λ k. doors_stepped k v) (sym (add-one i))
-
-pub drive_more : {M : Type 0} (driven : M → ℕ → Output → M) (i : ℕ) (v w : View) (o m k : M) → w ≡ doors_stepped i v → m ≡ doors_driven driven i v o → k ≡ drives_door driven m i (door_ticked w i).row → k ≡ doors_driven driven (i + 1) v o
-drive_more driven i v w o m k e d f =
-    f ∙ ap (λ x. drives_door driven m i (door_ticked x i).row) e ∙ ap (λ x. drives_door driven x i (door_ticked (doors_stepped i v) i).row) d ∙ ap (λ n. doors_driven driven n v o) (sym (add-one i))
-
 -- a door's row stored, and then its notice raised, is its step
 pub stepped_is : (v w u : View) (d : ℕ) (x : door.TickedRow) (r : Row) (t : Option Transition) → x ≡ door_ticked v d → r ≡ x.row → t ≡ x.transition → w ≡ with_row v d r → u ≡ with_notices w (raised_by w.notices d r t) → u ≡ door_stepped v d
 unfolding door_stepped

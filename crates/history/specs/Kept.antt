@@ -18,6 +18,11 @@ abbrev pub MadeKept : ℕ → Result Row Cause → Type 0
 MadeKept tenth (Ok r) = kept tenth r ≡ true
 MadeKept tenth (Err e) = Unit {0}
 
+-- a call that is no tick leaves the released tenths of its row
+abbrev pub Same : Row → Result Row Cause → Type 0
+Same r (Ok q) = q.released_tenths ≡ r.released_tenths
+Same r (Err e) = Unit {0}
+
 -- there is room for a tick that has begun: no door has been released for as many tenths as have passed, the last tenth has not
 -- passed, and there are serials for all doors
 pub record Room (v : View) : Type 0 where

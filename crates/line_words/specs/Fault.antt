@@ -1,7 +1,22 @@
--- What is wrong with a word, in words. Assumes nothing.
+-- What is wrong with a word, by what is wrong with its number or bytes, and in words. Assumes nothing.
 use Rattle.std.specs.Prelude.{ℕ, List, codes}
+use Rattle.numeral.specs.declared.decimal.NumberFault.{NumberFault}
+use Rattle.numeral.specs.declared.decimal.NumberFault.TheVariants as number
+use Rattle.numeral.specs.declared.hex.HexFault.{HexFault}
+use Rattle.numeral.specs.declared.hex.HexFault.TheVariants as hex
 use Rattle.line_words.specs.declared.fault.WordFault.{WordFault}
-use Rattle.line_words.specs.declared.fault.WordFault.TheVariants.{Unknown, Missing, Extra, NotANumber, TooLarge, NotHex, OddHex}
+use Rattle.line_words.specs.declared.fault.WordFault.TheVariants.{Unknown, Missing, Extra, NotANumber, TooLarge, NotHex, OddHex, OutOfMemory}
+
+-- a number that is none, as a fault of its word
+abbrev pub number_fault : NumberFault → WordFault
+number_fault number.NotDigits = NotANumber
+number_fault number.TooLarge = TooLarge
+
+-- bytes that are none, as a fault of their word
+abbrev pub hex_fault : HexFault → WordFault
+hex_fault hex.NotHex = NotHex
+hex_fault hex.OddDigits = OddHex
+hex_fault hex.OutOfMemory = OutOfMemory
 
 abbrev pub word_reason : WordFault → List ℕ
 word_reason Unknown = codes "unknown word"
@@ -11,3 +26,4 @@ word_reason NotANumber = codes "not a number"
 word_reason TooLarge = codes "number too large"
 word_reason NotHex = codes "not a hex digit"
 word_reason OddHex = codes "odd number of hex digits"
+word_reason OutOfMemory = codes "out of memory"

@@ -3,11 +3,10 @@ use Rattle.std.specs.Prelude.{ℕ, cond, List, [], ◌∷◌, Ok, Err, vec_items
 use Rattle.numeral.specs.Decimal.{decimal_answer}
 use Rattle.numeral.specs.Hex.{hex_answer}
 use Rattle.numeral.specs.declared.decimal.NumberFault.{NumberFault}
-use Rattle.numeral.specs.declared.decimal.NumberFault.TheVariants as number
 use Rattle.numeral.specs.declared.hex.HexFault.{HexFault}
-use Rattle.numeral.specs.declared.hex.HexFault.TheVariants as hex
+use Rattle.line_words.specs.Fault.{number_fault, hex_fault}
 use Rattle.line_words.specs.declared.fault.WordFault.{WordFault}
-use Rattle.line_words.specs.declared.fault.WordFault.TheVariants.{Missing, Extra, NotANumber, TooLarge, NotHex, OddHex}
+use Rattle.line_words.specs.declared.fault.WordFault.TheVariants.{Missing, Extra, TooLarge}
 
 -- the first fault stands; without one, what comes next
 abbrev pub then : {X Y F : Type 0} → Result X F → (X → Result Y F) → Result Y F
@@ -18,11 +17,9 @@ abbrev pub rest : List (List ℕ) → List (List ℕ)
 rest [] = []
 rest (w ∷ ws) = ws
 
--- a number that is none, as a fault of its word
 abbrev pub number_said : Result ℕ NumberFault → Result ℕ WordFault
 number_said (Ok n) = Ok n
-number_said (Err number.NotDigits) = Err NotANumber
-number_said (Err number.TooLarge) = Err TooLarge
+number_said (Err e) = Err (number_fault e)
 
 abbrev pub word_number : List ℕ → Result ℕ WordFault
 word_number w = number_said (decimal_answer w)
@@ -38,8 +35,7 @@ limited m (Err e) = Err e
 
 abbrev pub hex_said : Result (List ℕ) HexFault → Result (List ℕ) WordFault
 hex_said (Ok bs) = Ok bs
-hex_said (Err hex.NotHex) = Err NotHex
-hex_said (Err hex.OddDigits) = Err OddHex
+hex_said (Err e) = Err (hex_fault e)
 
 abbrev pub first_bytes : List (List ℕ) → Result (List ℕ) WordFault
 first_bytes [] = Err Missing

@@ -2,5 +2,6 @@ pub mod Bits
 pub mod Back
 pub mod Changed
 pub mod Within
+pub mod Limits
 pub mod Trip
 pub mod Written

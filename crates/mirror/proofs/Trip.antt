@@ -17,7 +17,7 @@ use Rattle.mirror.specs.Ranges.{InRange}
 use Rattle.report.proofs.Records.{length-encoded}
 use Rattle.mirror.proofs.Back.{Back, record_back, size_back}
 use Rattle.mirror.proofs.Changed.{applied-between, same_between}
-use Rattle.mirror.proofs.Within.{between_in_range, tenths_small}
+use Rattle.mirror.proofs.Within.{between_in_range}
 
 -- the mirror when the doors below d have been told of
 abbrev pub mixed : List ReportRow → List ReportRow → ℕ → List ReportRow
@@ -58,7 +58,7 @@ module _ (bs : List ℕ) (p d n : ℕ) (f : Fields) (rest : List ℕ) (back : Ba
   r = record { offset = p; door = d; fields = f }
 
   at_is : record_at bs p ≡ r
-  at_is = ap (λ (x : ℕ). record { offset = p; door = x; fields = fields_read (get_or bs p 0) bs (p + 2) }) back.door ∙ ap (λ (x : ℕ). record { offset = p; door = d; fields = fields_read x bs (p + 2) }) back.map ∙ ap (λ (x : Fields). record { offset = p; door = d; fields = x }) back.fields
+  at_is = ap (λ (x : ℕ). record { offset = p; door = x; fields = fields_read (get_or bs p 0) (drop (p + 2) bs) }) back.door ∙ ap (λ (x : ℕ). record { offset = p; door = d; fields = fields_read x (drop (p + 2) bs) }) back.map ∙ ap (λ (x : Fields). record { offset = p; door = d; fields = x }) back.fields
 
   fits : p + 2 + fields_size (get_or bs p 0) ≤ length bs
   fits = rw back.map whole
@@ -107,7 +107,7 @@ module _ (last rows : List ReportRow) (bs : List ℕ) (same : length last ≡ le
       let new = get_or rows d no_report_row in
       let f = door_fields last rows d in
       let range = ok d h in
-      let back = record_back d f bs p (tail (d + 1) k) (tenths_small old new range) w in
+      let back = record_back d f bs p (tail (d + 1) k) w in
       let size = size_back f in
       let long = ap length w ∙ length-append (encoded d f) (tail (d + 1) k) in
       let enc = length-encoded d f in

@@ -1,6 +1,6 @@
 -- What differs between two rows is within its limits where the new row is. Assumes nothing.
-use Rattle.std.proofs.Common.{◌≡◌, ℕ, ◌^◌, ◌<◌, Bool, true, false, cond, ◌&&◌, eqb, leb, Some, None, refl, arith}
-use Rattle.std.proofs.lemmas.Bool.{and_parts, and_from, leb-true}
+use Rattle.std.proofs.Common.{◌≡◌, ℕ, Bool, true, false, cond, eqb, leb, Some, None, refl}
+use Rattle.std.proofs.lemmas.Bool.{and_parts, and_from}
 use Rattle.door.specs.declared.shown.ReportRow.{ReportRow}
 use Rattle.report.specs.Fields.{if_new, fields_between}
 use Rattle.mirror.specs.Record.{in_range, fields_in_range}
@@ -31,26 +31,3 @@ between_in_range old new h =
     (and_from _ _ (new_range old.secured_status new.secured_status 2 f.0)
     (and_from _ _ (new_range old.output new.output 1 g.0)
     (new_range old.released_tenths new.released_tenths 2000000000 g.1)))))))
-
-tenths_test : (b : Bool) (n v : ℕ) → leb n 2000000000 ≡ true → cond b None (Some n) ≡ Some v → v < 2 ^ 32
-tenths_test true n v h e = let z : ◌≡◌ {A = ℕ} 0 1 = cc in absurd (omega arith)
-tenths_test false n v h e = let g : n ≡ v = cc in let l = leb-true n 2000000000 h in omega arith
-
-pub tenths_small : (old new : ReportRow) → row_in_range new ≡ true → (v : ℕ) → (fields_between old new).released_tenths ≡ Some v → v < 2 ^ 32
-unfolding row_in_range
-tenths_small old new h v e =
-    let t7 = leb new.released_tenths 2000000000 in
-    let t6 = leb new.output 1 in
-    let t5 = leb new.secured_status 2 in
-    let t4 = leb new.lock_status 3 in
-    let t3 = leb new.door_status 2 in
-    let t2 = leb new.door_alarm_state 8 in
-    let t1 = leb new.status_flags 15 in
-    let t0 = leb new.present_value 3 in
-    let h1 = (and_parts t0 (t1 && (t2 && (t3 && (t4 && (t5 && (t6 && t7)))))) h).1 in
-    let h2 = (and_parts t1 (t2 && (t3 && (t4 && (t5 && (t6 && t7))))) h1).1 in
-    let h3 = (and_parts t2 (t3 && (t4 && (t5 && (t6 && t7)))) h2).1 in
-    let h4 = (and_parts t3 (t4 && (t5 && (t6 && t7))) h3).1 in
-    let h5 = (and_parts t4 (t5 && (t6 && t7)) h4).1 in
-    let h6 = (and_parts t5 (t6 && t7) h5).1 in
-    tenths_test (eqb old.released_tenths new.released_tenths) new.released_tenths v (and_parts t6 t7 h6).1 e

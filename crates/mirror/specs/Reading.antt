@@ -1,9 +1,10 @@
 -- Reading a record from any bytes. Assumes nothing.
-use Rattle.std.specs.Prelude.{ℕ, ◌+◌, ◌*◌, cond, List, length, Some, None, Ok, Err, Option, Result, ◌==◌, bit_and, nat_le, nat_lt, slice_index}
+use Rattle.std.specs.Prelude.{ℕ, ◌+◌, cond, List, length, take, drop, Some, None, Ok, Err, Option, Result, ◌==◌, bit_and, nat_le, nat_lt, slice_index}
 use Rattle.board.specs.declared.refusal.Cause.TheVariants.{RecordCut, BadRecord}
 use Rattle.board.specs.declared.refusal.Layer.TheVariants.{Records}
 use Rattle.board.specs.declared.refusal.Refusal.{Refusal}
 use Rattle.report.specs.declared.fields.Fields.{Fields}
+use Rattle.report.specs.Fields.{of_one_byte, of_four_bytes}
 use Rattle.mirror.specs.declared.reader.Place.{Place}
 use Rattle.mirror.specs.declared.record.Record.{Record}
 use Rattle.mirror.specs.Record.{fields_in_range}
@@ -20,67 +21,58 @@ byte_answer offset bs p = cond (nat_lt p (length bs)) (Ok (slice_index bs p)) (E
 abbrev pub place_after_byte : List ℕ → Place → Place
 place_after_byte bs p = cond (nat_lt p.at (length bs)) (record { at = p.at + 1 }) p
 
--- a field is there where its bit stands in the map
-abbrev pub field_width : ℕ → ℕ → ℕ
-field_width map bit = cond (bit_and map bit == 0) 0 1
-
-abbrev pub tenths_width : ℕ → ℕ
-tenths_width map = cond (bit_and map 128 == 0) 0 4
+-- a field, whose value takes n bytes, is there where its bit stands in the map
+abbrev pub field_width : ℕ → ℕ → ℕ → ℕ
+field_width n map bit = cond (bit_and map bit == 0) 0 n
 
 abbrev pub fields_width : ℕ → ℕ
 fields_width map =
-    field_width map 1 + field_width map 2 + field_width map 4 + field_width map 8 + field_width map 16 + field_width map 32 + field_width map 64 + tenths_width map
+    field_width 1 map 1 + field_width 1 map 2 + field_width 1 map 4 + field_width 1 map 8 + field_width 1 map 16 + field_width 1 map 32 + field_width 1 map 64 + field_width 4 map 128
 
 -- how many bytes the fields of a bit map take
 unfoldable pub fields_size : ℕ → ℕ
 fields_size map = fields_width map
 
-abbrev pub field_at : ℕ → ℕ → List ℕ → ℕ → Option ℕ
-field_at map bit bs p = cond (bit_and map bit == 0) None (Some (slice_index bs p))
+-- the field at the front of the bytes, with the value that its n bytes say
+abbrev pub field_at : {V : Type 0} → ℕ → (List ℕ → V) → ℕ → ℕ → List ℕ → Option V
+field_at n value map bit bs = cond (bit_and map bit == 0) None (Some (value (take n bs)))
 
--- four bytes, high first
-abbrev pub four_at : List ℕ → ℕ → ℕ
-four_at bs p = (slice_index bs p * 256 + slice_index bs (p + 1)) * 65536 + (slice_index bs (p + 2) * 256 + slice_index bs (p + 3))
+-- the fields of a record stand one behind the other: what is left of the bytes after each
+abbrev pub rest_1 : ℕ → List ℕ → List ℕ
+rest_1 map bs = drop (field_width 1 map 1) bs
 
-abbrev pub tenths_at : ℕ → List ℕ → ℕ → Option ℕ
-tenths_at map bs p = cond (bit_and map 128 == 0) None (Some (four_at bs p))
+abbrev pub rest_2 : ℕ → List ℕ → List ℕ
+rest_2 map bs = drop (field_width 1 map 2) (rest_1 map bs)
 
--- the fields of a record stand one behind the other from p on
-abbrev pub place_1 : ℕ → ℕ → ℕ
-place_1 map p = p + field_width map 1
+abbrev pub rest_3 : ℕ → List ℕ → List ℕ
+rest_3 map bs = drop (field_width 1 map 4) (rest_2 map bs)
 
-abbrev pub place_2 : ℕ → ℕ → ℕ
-place_2 map p = place_1 map p + field_width map 2
+abbrev pub rest_4 : ℕ → List ℕ → List ℕ
+rest_4 map bs = drop (field_width 1 map 8) (rest_3 map bs)
 
-abbrev pub place_3 : ℕ → ℕ → ℕ
-place_3 map p = place_2 map p + field_width map 4
+abbrev pub rest_5 : ℕ → List ℕ → List ℕ
+rest_5 map bs = drop (field_width 1 map 16) (rest_4 map bs)
 
-abbrev pub place_4 : ℕ → ℕ → ℕ
-place_4 map p = place_3 map p + field_width map 8
+abbrev pub rest_6 : ℕ → List ℕ → List ℕ
+rest_6 map bs = drop (field_width 1 map 32) (rest_5 map bs)
 
-abbrev pub place_5 : ℕ → ℕ → ℕ
-place_5 map p = place_4 map p + field_width map 16
+abbrev pub rest_7 : ℕ → List ℕ → List ℕ
+rest_7 map bs = drop (field_width 1 map 64) (rest_6 map bs)
 
-abbrev pub place_6 : ℕ → ℕ → ℕ
-place_6 map p = place_5 map p + field_width map 32
-
-abbrev pub place_7 : ℕ → ℕ → ℕ
-place_7 map p = place_6 map p + field_width map 64
-
-unfoldable pub fields_read : ℕ → List ℕ → ℕ → Fields
-fields_read map bs p = record {
-  present_value = field_at map 1 bs p;
-  status_flags = field_at map 2 bs (place_1 map p);
-  door_alarm_state = field_at map 4 bs (place_2 map p);
-  door_status = field_at map 8 bs (place_3 map p);
-  lock_status = field_at map 16 bs (place_4 map p);
-  secured_status = field_at map 32 bs (place_5 map p);
-  output = field_at map 64 bs (place_6 map p);
-  released_tenths = tenths_at map bs (place_7 map p);
+unfoldable pub fields_read : ℕ → List ℕ → Fields
+fields_read map bs = record {
+  present_value = field_at 1 of_one_byte map 1 bs;
+  status_flags = field_at 1 of_one_byte map 2 (rest_1 map bs);
+  door_alarm_state = field_at 1 of_one_byte map 4 (rest_2 map bs);
+  door_status = field_at 1 of_one_byte map 8 (rest_3 map bs);
+  lock_status = field_at 1 of_one_byte map 16 (rest_4 map bs);
+  secured_status = field_at 1 of_one_byte map 32 (rest_5 map bs);
+  output = field_at 1 of_one_byte map 64 (rest_6 map bs);
+  released_tenths = field_at 4 of_four_bytes map 128 (rest_7 map bs);
 }
 
 abbrev pub record_at : List ℕ → ℕ → Record
-record_at bs p = record { offset = p; door = slice_index bs (p + 1); fields = fields_read (slice_index bs p) bs (p + 2) }
+record_at bs p = record { offset = p; door = slice_index bs (p + 1); fields = fields_read (slice_index bs p) (drop (p + 2) bs) }
 
 -- what reading at p answers, for a mirror of n rows: the end, a cut record, a bad one, or the record
 abbrev pub next_answer : List ℕ → ℕ → ℕ → Result (Option Record) Refusal

@@ -2,9 +2,13 @@
 use Rattle.std.specs.Prelude.{ℕ, Bool, true, ◌&&◌, Some, None, Option, nat_le}
 use Rattle.report.specs.declared.fields.Fields.{Fields}
 
+-- a field that is there is at most that, by the order `le`
+abbrev pub is_at_most : {V : Type 0} → (V → V → Bool) → Option V → V → Bool
+is_at_most le None most = true
+is_at_most le (Some v) most = le v most
+
 abbrev pub in_range : Option ℕ → ℕ → Bool
-in_range None most = true
-in_range (Some v) most = nat_le v most
+in_range value most = is_at_most nat_le value most
 
 unfoldable pub fields_in_range : Fields → Bool
 fields_in_range f =

@@ -1,10 +1,12 @@
-ghost use Rattle.std.specs.Prelude.{◌≡◌, ◌+◌, ◌≤◌, length, if◌then◌else◌};
+ghost use Rattle.std.specs.Prelude.{◌≡◌, ◌≤◌, length, drop};
+ghost use Rattle.std.specs.Option.{unwrap_or};
 ghost use Rattle.board.specs.declared.refusal.Layer.TheVariants.{Records};
-ghost use Rattle.mirror.specs.Reading.{byte_answer, place_after_byte, field_width, tenths_width, fields_width, fields_size, field_at, tenths_at, fields_read, next_answer, place_after};
+ghost use Rattle.mirror.specs.Reading.{byte_answer, place_after_byte, field_width, fields_size, field_at, fields_read, next_answer, place_after};
 
 use crate::record::{Record, are_within};
 use board::refusal::{Cause, Layer, Refusal};
 use report::fields::Fields;
+use report::value::FieldValue;
 
 /// Where a reader is in its bytes.
 #[derive(Clone, Copy)]
@@ -15,21 +17,19 @@ pub struct Place {
 /// A guard that puts the place back to where a record began, unless it was disarmed.
 struct Rewind<'a> {
     place: &'a mut Place,
-    start: usize,
-    armed: bool,
+    back_to: Option<usize>,
 }
 
 impl Drop for Rewind<'_> {
     fn drop(self)
-        ensures { self.exit.0.now ≡ (if self.entry.armed then (record { at = self.entry.start }) else self.entry.place.now) }
+        ensures { self.exit.0.now.at ≡ unwrap_or self.entry.back_to self.entry.place.now.at }
     {
-        if self.armed {
-            self.place.at = self.start;
+        if let Some(start) = self.back_to {
+            self.place.at = start;
         }
         let Rewind {
             place: _,
-            start: _,
-            armed: _,
+            back_to: _,
         } = self;
     }
 }
@@ -48,89 +48,75 @@ fn read_byte(offset: usize, bytes: &[u8], place: &mut Place) -> Result<u8, Refus
     ensures value { result ≡ byte_answer offset bytes.now place.old.at }
     ensures after { place.new ≡ place_after_byte bytes.now place.old }
 {
-    let at = place.at;
-    if at >= bytes.len() {
-        return Err(refused(Cause::RecordCut, offset));
-    }
-    place.at = at + 1;
-    Ok(bytes[at])
+    let byte = bytes
+        .get(place.at)
+        .ok_or(refused(Cause::RecordCut, offset))?;
+    place.at += 1;
+    Ok(*byte)
 }
 
-/// A field of one byte, where its bit stands in the map.
-fn read_field(map: u8, bit: u8, bytes: &[u8], place: &mut Place) -> Option<u8>
-    requires { place.old.at + field_width map bit ≤ length bytes.now }
-    ensures value { result ≡ field_at map bit bytes.now place.old.at }
-    ensures after { place.new.at ≡ place.old.at + field_width map bit }
+fn width_of(size: usize, map: u8, bit: u8) -> usize
+    ensures value { result ≡ field_width size map bit }
+    ensures most { result ≤ size }
 {
-    if map & bit == 0 {
-        return None;
-    }
-    let at = place.at;
-    place.at = at + 1;
-    Some(bytes[at])
-}
-
-/// The released tenths, four bytes, high first.
-fn read_tenths(map: u8, bytes: &[u8], place: &mut Place) -> Option<u32>
-    requires { place.old.at + tenths_width map ≤ length bytes.now }
-    ensures value { result ≡ tenths_at map bytes.now place.old.at }
-    ensures after { place.new.at ≡ place.old.at + tenths_width map }
-{
-    if map & 128 == 0 {
-        return None;
-    }
-    let at = place.at;
-    place.at = at + 4;
-    let high = u32::from(bytes[at]) * 256 + u32::from(bytes[at + 1]);
-    let low = u32::from(bytes[at + 2]) * 256 + u32::from(bytes[at + 3]);
-    Some(high * 65_536 + low)
-}
-
-fn width_of(map: u8, bit: u8) -> usize
-    ensures value { result ≡ field_width map bit }
-    ensures most { result ≤ 1 }
-{
-    if map & bit == 0 { 0 } else { 1 }
+    if map & bit == 0 { 0 } else { size }
 }
 
 /// How many bytes the fields of a bit map take.
+#[tactic(auto, unfolding(crate::specs::Reading::fields_size))]
 fn size_of(map: u8) -> usize
     ensures value { result ≡ fields_size map }
     ensures most { result ≤ 11 }
 {
-    let tenths = if map & 128 == 0 { 0 } else { 4 };
-    width_of(map, 1)
-        + width_of(map, 2)
-        + width_of(map, 4)
-        + width_of(map, 8)
-        + width_of(map, 16)
-        + width_of(map, 32)
-        + width_of(map, 64)
-        + tenths
+    width_of(1, map, 1)
+        + width_of(1, map, 2)
+        + width_of(1, map, 4)
+        + width_of(1, map, 8)
+        + width_of(1, map, 16)
+        + width_of(1, map, 32)
+        + width_of(1, map, 64)
+        + width_of(4, map, 128)
 }
 
-fn read_fields(map: u8, bytes: &[u8], place: &mut Place) -> Fields
-    requires { place.old.at + fields_width map ≤ length bytes.now }
-    ensures value { result ≡ fields_read map bytes.now place.old.at }
-    ensures after { place.new.at ≡ place.old.at + fields_size map }
-{
-    let present_value = read_field(map, 1, bytes, place);
-    let status_flags = read_field(map, 2, bytes, place);
-    let door_alarm_state = read_field(map, 4, bytes, place);
-    let door_status = read_field(map, 8, bytes, place);
-    let lock_status = read_field(map, 16, bytes, place);
-    let secured_status = read_field(map, 32, bytes, place);
-    let output = read_field(map, 64, bytes, place);
-    let released_tenths = read_tenths(map, bytes, place);
-    Fields {
-        present_value,
-        status_flags,
-        door_alarm_state,
-        door_status,
-        lock_status,
-        secured_status,
-        output,
-        released_tenths,
+/// The fields of a record that are still to be read: its bit map, and the bytes from the next field on.
+#[derive(Clone, Copy)]
+struct FieldReader<'a> {
+    map: u8,
+    rest: &'a [u8],
+}
+
+impl FieldReader<'_> {
+    /// The next field, where its bit stands in the map.
+    fn field<const N: usize, V: FieldValue<N>>(&mut self, bit: u8) -> Option<V>
+        requires { field_width N self.old.map bit ≤ length self.old.rest.now }
+        ensures value { result ≡ field_at N V.value_of self.old.map bit self.old.rest.now }
+        ensures map { self.new.map ≡ self.old.map }
+        ensures rest { self.new.rest.now ≡ drop (field_width N self.old.map bit) self.old.rest.now }
+    {
+        if self.map & bit == 0 {
+            return None;
+        }
+        let (bytes, rest) = self.rest.split_first_chunk()?;
+        self.rest = rest;
+        Some(V::from_bytes(bytes))
+    }
+
+    /// All fields of the map, in order.
+    #[tactic(auto, unfolding(crate::specs::Reading::fields_read, crate::specs::Reading::fields_size))]
+    fn fields(mut self) -> Fields
+        requires { fields_size self.map ≤ length self.rest.now }
+        ensures { result ≡ fields_read self.entry.map self.entry.rest.now }
+    {
+        Fields {
+            present_value: self.field(1),
+            status_flags: self.field(2),
+            door_alarm_state: self.field(4),
+            door_status: self.field(8),
+            lock_status: self.field(16),
+            secured_status: self.field(32),
+            output: self.field(64),
+            released_tenths: self.field(128),
+        }
     }
 }
 
@@ -165,6 +151,7 @@ impl<'a> Reader<'a> {
     }
 
     /// The next record, or `None` where no byte is left. A refused record leaves the place where it began.
+    // No Iterator: a refused record comes again and again, so that it would not end.
     pub fn next(&mut self) -> Result<Option<Record>, Refusal>
         ensures value { result ≡ next_answer self.old.bytes.now self.old.place.at self.old.rows }
         ensures bytes { self.new.bytes.now ≡ self.old.bytes.now }
@@ -179,25 +166,21 @@ impl<'a> Reader<'a> {
         }
         let mut mark = Rewind {
             place: &mut self.place,
-            start,
-            armed: true,
+            back_to: Some(start),
         };
         let map = read_byte(start, bytes, mark.place)?;
         let door = read_byte(start, bytes, mark.place)?;
-        if bytes.len() - mark.place.at < size_of(map) {
+        let rest = &bytes[mark.place.at..];
+        let size = size_of(map);
+        if rest.len() < size {
             return Err(refused(Cause::RecordCut, start));
         }
-        let fields = read_fields(map, bytes, mark.place);
-        if map == 0 {
+        let fields = FieldReader { map, rest }.fields();
+        mark.place.at += size;
+        if map == 0 || usize::from(door) >= rows || !are_within(&fields) {
             return Err(refused(Cause::BadRecord, start));
         }
-        if usize::from(door) >= rows {
-            return Err(refused(Cause::BadRecord, start));
-        }
-        if !are_within(&fields) {
-            return Err(refused(Cause::BadRecord, start));
-        }
-        mark.armed = false;
+        mark.back_to = None;
         Ok(Some(Record {
             offset: start,
             door: usize::from(door),

@@ -1,18 +1,19 @@
 ghost use Rattle.std.specs.Prelude.{◌≡◌};
-ghost use Rattle.mirror.specs.Record.{in_range, fields_in_range};
+ghost use Rattle.std.specs.Ordering.{partial_le};
+ghost use Rattle.mirror.specs.Record.{is_at_most, fields_in_range};
 
 use report::fields::Fields;
 
 /// A record of a report: where it begins, the door it is of, and the fields that it has.
-#[derive(Clone, Copy)]
+#[derive(Clone, Copy, PartialEq, Eq)]
 pub struct Record {
     pub offset: usize,
     pub door: usize,
     pub fields: Fields,
 }
 
-fn is_within(value: Option<u8>, most: u8) -> bool
-    ensures { result ≡ in_range value most }
+fn is_within<V: PartialOrd + Copy>(value: Option<V>, most: V) -> bool
+    ensures { result ≡ is_at_most (partial_le V.partial_cmp) value most }
 {
     match value {
         Some(v) => v <= most,
@@ -20,16 +21,8 @@ fn is_within(value: Option<u8>, most: u8) -> bool
     }
 }
 
-fn are_tenths_within(value: Option<u32>) -> bool
-    ensures { result ≡ in_range value 2000000000 }
-{
-    match value {
-        Some(v) => v <= 2_000_000_000,
-        None => true,
-    }
-}
-
 /// Whether each field that is there is at most its limit.
+#[tactic(auto, using(crate::proofs::Limits::at_most_is), unfolding(crate::specs::Record::fields_in_range))]
 pub(crate) fn are_within(fields: &Fields) -> bool
     ensures { result ≡ fields_in_range fields.now }
 {
@@ -40,5 +33,5 @@ pub(crate) fn are_within(fields: &Fields) -> bool
         && is_within(fields.lock_status, 3)
         && is_within(fields.secured_status, 2)
         && is_within(fields.output, 1)
-        && are_tenths_within(fields.released_tenths)
+        && is_within(fields.released_tenths, 2_000_000_000)
 }

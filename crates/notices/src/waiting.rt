@@ -2,14 +2,12 @@ ghost use Rattle.std.specs.Prelude.{◌≡◌};
 ghost use Rattle.notices.specs.Waiting.{none_waiting, with_notice};
 
 use crate::notice::Notice;
-use events::event::Transition;
+use events::per_transition::PerTransition;
 
 /// The notices of one door that wait to be handed out: at most one for each transition, since a later one overtakes it.
 #[derive(Clone, Copy)]
 pub struct Waiting {
-    pub to_offnormal: Option<Notice>,
-    pub to_fault: Option<Notice>,
-    pub to_normal: Option<Notice>,
+    pub notices: PerTransition<Option<Notice>>,
 }
 
 impl Waiting {
@@ -17,9 +15,11 @@ impl Waiting {
         ensures { result ≡ none_waiting }
     {
         Waiting {
-            to_offnormal: None,
-            to_fault: None,
-            to_normal: None,
+            notices: PerTransition {
+                to_offnormal: None,
+                to_fault: None,
+                to_normal: None,
+            },
         }
     }
 
@@ -27,19 +27,8 @@ impl Waiting {
     pub fn with(self, notice: Notice) -> Waiting
         ensures { result ≡ with_notice self notice }
     {
-        match notice.transition {
-            Transition::ToOffnormal => Waiting {
-                to_offnormal: Some(notice),
-                ..self
-            },
-            Transition::ToFault => Waiting {
-                to_fault: Some(notice),
-                ..self
-            },
-            Transition::ToNormal => Waiting {
-                to_normal: Some(notice),
-                ..self
-            },
+        Waiting {
+            notices: self.notices.with(notice.transition, Some(notice)),
         }
     }
 }

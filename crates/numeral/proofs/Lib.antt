@@ -1,3 +1,1 @@
-pub mod Pairs
-pub mod Passes
 pub mod Tens

@@ -1,6 +1,6 @@
 -- Decimal numbers. Assumes nothing.
 use Rattle.std.specs.Prelude.{ℕ, ◌+◌, ◌-◌, ◌*◌, ◌^◌, Bool, cond, not, ◌&&◌, ◌||◌, List, [], ◌∷◌, length, Some, None, Ok, Err, Option, Result, ◌==◌, nat_le, nat_lt}
-use Rattle.numeral.specs.Bytes.{all_pass}
+use Rattle.std.specs.List.{list_all}
 use Rattle.numeral.specs.declared.decimal.NumberFault.{NumberFault}
 use Rattle.numeral.specs.declared.decimal.NumberFault.TheVariants.{NotDigits, TooLarge}
 
@@ -9,7 +9,7 @@ abbrev pub digit : ℕ → Bool
 digit b = nat_le 48 b && nat_le b 57
 
 abbrev pub all_digits : List ℕ → Bool
-all_digits bs = all_pass digit bs
+all_digits bs = list_all digit bs
 
 -- the number that digits write behind those of n
 abbrev pub decimal_after : ℕ → List ℕ → ℕ

@@ -1,7 +1,8 @@
 -- Bytes written as hex digits. Assumes nothing.
-use Rattle.std.specs.Prelude.{ℕ, ◌+◌, ◌-◌, ◌*◌, ◌/◌, ◌%◌, Bool, cond, ◌&&◌, List, [], ◌∷◌, length, is_some, Some, None, Ok, Err, vec_items, Option, Result, Vec, ◌==◌, nat_le, nat_lt, slice_index}
+use Rattle.std.specs.Prelude.{ℕ, ◌+◌, ◌-◌, ◌*◌, ◌/◌, ◌%◌, Bool, cond, ◌&&◌, List, [], ◌∷◌, length, is_some, Some, None, Ok, Err, vec_items, Option, Result, Vec, ◌==◌, nat_le, nat_lt, codes}
 use Rattle.std.specs.Option.{unwrap_or}
-use Rattle.numeral.specs.Bytes.{all_pass}
+use Rattle.std.specs.List.{list_all}
+use Rattle.std.specs.Str.{bytes_eq}
 use Rattle.numeral.specs.declared.hex.HexFault.{HexFault}
 use Rattle.numeral.specs.declared.hex.HexFault.TheVariants.{NotHex, OddDigits}
 
@@ -14,7 +15,7 @@ abbrev pub is_hex : ℕ → Bool
 is_hex b = is_some (hex_digit b)
 
 abbrev pub all_hex : List ℕ → Bool
-all_hex bs = all_pass is_hex bs
+all_hex bs = list_all is_hex bs
 
 abbrev pub hex_value : ℕ → ℕ
 hex_value b = unwrap_or (hex_digit b) 0
@@ -27,7 +28,7 @@ hex_pairs (h ∷ l ∷ bs) = (16 * hex_value h + hex_value l) ∷ hex_pairs bs
 
 -- the word `-`, which writes no bytes
 abbrev pub dash : List ℕ → Bool
-dash bs = length bs == 1 && slice_index bs 0 == 45
+dash bs = bytes_eq bs (codes "-")
 
 abbrev pub hex_answer : List ℕ → Result (List ℕ) HexFault
 hex_answer bs =

@@ -19,30 +19,23 @@ pub fn decimal(word: &[u8]) -> Result<u64, NumberFault>
     if word.is_empty() || !all_digits(word) {
         return Err(NumberFault::NotDigits);
     }
-    match value_of(word) {
-        Some(n) => Ok(n),
-        None => Err(NumberFault::TooLarge),
-    }
+    value_of(word).ok_or(NumberFault::TooLarge)
 }
 
 fn is_digit(b: u8) -> bool
     ensures { result ≡ digit b }
 {
-    matches!(b, b'0'..=b'9')
+    b.is_ascii_digit()
 }
 
 fn all_digits(word: &[u8]) -> bool
     ensures { result ≡ all_digits word.now }
 {
-    for b in word {
-        if !is_digit(*b) {
-            return false;
-        }
-    }
-    true
+    word.iter().all(|b| is_digit(*b))
 }
 
 /// The value of `digits`, unless it is too large.
+#[tactic(auto, using(crate::proofs::Tens::too_large))]
 fn value_of(digits: &[u8]) -> Option<u64>
     ensures { result ≡ if_small (decimal_value digits.now) }
 {

@@ -1,6 +1,7 @@
 //! Bytes written as hex digits, two for each.
-ghost use Rattle.std.specs.Prelude.{◌≡◌, ◌<◌, [], ◌∷◌, ◌++◌, IfOk, string_bytes, OnOk};
-ghost use Rattle.numeral.specs.Hex.{hex_digit, hex_value, is_hex, all_hex, dash, hex_pairs, hex_answer, bytes_read, hex_char, hex_text};
+ghost use Rattle.std.specs.Prelude.{◌≡◌, ◌<◌, ◌⊎◌, [], ◌∷◌, ◌++◌, IfOk, IsErrOf, string_bytes, OnOk};
+ghost use Rattle.numeral.specs.Hex.{hex_digit, hex_value, all_hex, hex_pairs, hex_answer, bytes_read, hex_char, hex_text};
+ghost use Rattle.numeral.specs.declared.hex.HexFault.TheVariants.{OutOfMemory};
 
 use std::alloc::{AllocError, Global};
 
@@ -11,23 +12,33 @@ pub enum HexFault {
     NotHex,
     /// One digit has no second.
     OddDigits,
+    /// The bytes find no room.
+    OutOfMemory,
+}
+
+impl From<AllocError> for HexFault {
+    ghost from_gives = { λ _ fault. fault ≡ OutOfMemory };
+
+    fn from(_error: AllocError) -> HexFault {
+        HexFault::OutOfMemory
+    }
 }
 
 /// The bytes that `word` writes; a `-` alone writes none.
-pub fn hex_bytes(heap: Global, word: &[u8]) -> Result<Result<Vec<u8>, HexFault>, AllocError>
-    ensures { IfOk result (λ a. bytes_read a ≡ hex_answer word.now) }
+pub fn hex_bytes(heap: Global, word: &[u8]) -> Result<Vec<u8>, HexFault>
+    ensures { IsErrOf result HexFault.OutOfMemory ⊎ (bytes_read result ≡ hex_answer word.now) }
 {
-    if is_dash(word) {
-        return Ok(Ok(Vec::new(heap)));
+    if word == b"-".as_slice() {
+        return Ok(Vec::new(heap));
     }
     // A wrong digit is told before a missing one.
     if !is_all_hex(word) {
-        return Ok(Err(HexFault::NotHex));
+        return Err(HexFault::NotHex);
     }
     if word.len() % 2 == 1 {
-        return Ok(Err(HexFault::OddDigits));
+        return Err(HexFault::OddDigits);
     }
-    Ok(Ok(pairs(heap, word)?))
+    Ok(pairs(heap, word)?)
 }
 
 /// What a hex digit of either case stands for.
@@ -42,27 +53,10 @@ pub fn hex_digit(b: u8) -> Option<u8>
     }
 }
 
-fn is_dash(word: &[u8]) -> bool
-    ensures { result ≡ dash word.now }
-{
-    matches!(word, [b'-'])
-}
-
-fn is_hex(b: u8) -> bool
-    ensures { result ≡ is_hex b }
-{
-    hex_digit(b).is_some()
-}
-
 fn is_all_hex(word: &[u8]) -> bool
     ensures { result ≡ all_hex word.now }
 {
-    for b in word {
-        if !is_hex(*b) {
-            return false;
-        }
-    }
-    true
+    word.iter().all(|b| hex_digit(*b).is_some())
 }
 
 /// The bytes that `digits` write two by two.
@@ -70,10 +64,8 @@ fn pairs(heap: Global, digits: &[u8]) -> Result<Vec<u8>, AllocError>
     ensures { IfOk result (λ v. v.items ≡ hex_pairs digits.now) }
 {
     let mut bytes = Vec::new(heap);
-    let mut rest = digits;
-    while let [high, low, after @ ..] = rest {
-        bytes.push(16 * digit_value(*high) + digit_value(*low))?;
-        rest = after;
+    for pair in digits.chunks_exact(2) {
+        bytes.push(16 * digit_value(pair[0]) + digit_value(pair[1]))?;
     }
     Ok(bytes)
 }
@@ -82,10 +74,7 @@ fn digit_value(b: u8) -> u8
     ensures value { result ≡ hex_value b }
     ensures small { result < 16 }
 {
-    match hex_digit(b) {
-        Some(d) => d,
-        None => 0,
-    }
+    hex_digit(b).unwrap_or(0)
 }
 
 /// The text of `bytes`, two digits for each, in lower case.

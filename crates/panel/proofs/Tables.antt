@@ -16,18 +16,9 @@ use Rattle.notices.specs.declared.waiting.Waiting.{Waiting}
 use Rattle.notices.specs.Waiting.{none_waiting, with_notice}
 use Rattle.history.specs.Views.{View, door_driven, drives_door, with_row, with_notices}
 use Rattle.history.specs.Ticks.{raised}
-use Rattle.history.specs.Kept.{kept, all_kept, MadeKept}
+use Rattle.history.specs.Kept.{kept, all_kept, MadeKept, Same}
 use Rattle.history.proofs.Rows.{kept_at}
-use Rattle.history.proofs.DoorCalls.{Same, stays_kept}
-
--- a legal row makes a door, and it is the door of that row
-pub is_made : (o : Option Door) (r : Row) → legal r ≡ true → MatchOption o (legal r ≡ false) (λ d. d.row ≡ r) → is_some o ≡ true
-is_made (Some d) r l h = refl
-is_made None r l h = sym h ∙ l
-
-pub made_row : (o : Option Door) (x : Door) (r : Row) → o ≡ Some x → MatchOption o (legal r ≡ false) (λ d. d.row ≡ r) → x.row ≡ r
-made_row (Some d) x r e h = let f : x.row ≡ d.row = cc in f ∙ h
-made_row None x r e h = let z : ◌≡◌ {A = ℕ} 0 1 = cc in absurd (omega arith)
+use Rattle.history.proofs.DoorCalls.{stays_kept}
 
 -- an element of a table is one of its part
 pub of_part : {X : Type 0} (n : ℕ) (xs : List X) (i : ℕ) (d e : X) → i < n → i < length xs → get_or xs i d ≡ get_or (take n xs) i e

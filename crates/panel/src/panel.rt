@@ -14,6 +14,8 @@ mod sounder;
 mod tick;
 
 /// A panel: a board, and for each of its doors a row of a table of 64. Only its calls change it or its board.
+// Arrays, since no call allocates; three of them, since each is handed on alone, as the rows last reported to the writer of reports.
+// No Model: its Value would need the type of the board's memory, which a Model can't name.
 #[derive(Drop)]
 pub struct Panel<B> {
     board: B,

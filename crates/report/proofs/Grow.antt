@@ -3,16 +3,21 @@ use Rattle.std.proofs.Common.{◌≡◌, ℕ, ◌+◌, ◌-◌, ◌≤◌, List,
 use borrow.Rule.Slice.PartMut.{put_mid}
 use lib.Seq.{drop-append-add}
 use Rattle.std.specs.List.{between}
-use Rattle.std.proofs.lemmas.List.{take_rest, drop_all, length-drop}
+use Rattle.std.proofs.lemmas.List.{take_rest, drop_all, length-drop, length-append}
 
--- the parts es stand in front, and fs is written behind them
-pub grow : (s es fs xs ys : List ℕ) (n m w : ℕ) → length es ≡ n → m ≡ n + w → xs ≡ es ++ drop n s → ys ≡ take n xs ++ (fs ++ drop (n + w) xs) → ys ≡ (es ++ fs) ++ drop m s
-grow s es fs xs ys n m w e q h k =
-    let front : take n xs ≡ es = ap (take n) h ∙ take_at es (drop n s) n e in
+-- s with the bytes es, n in number, written over its front
+pub record Front (s xs es : List ℕ) (n : ℕ) : Type 0 where
+  pub long : length es ≡ n
+  pub bytes : xs ≡ es ++ drop n s
+
+-- fs is written behind them
+pub grow : {s xs es : List ℕ} {n : ℕ} → Front s xs es n → {ys : List ℕ} (fs : List ℕ) {m w : ℕ} → length fs ≡ w → m ≡ n + w → ys ≡ take n xs ++ (fs ++ drop (n + w) xs) → Front s ys (es ++ fs) m
+grow {s} {xs} {es} {n} h {ys} fs {m} {w} l q k =
+    let front : take n xs ≡ es = ap (take n) h.bytes ∙ take_at es (drop n s) n h.long in
     let rest : drop (n + w) xs ≡ drop (n + w) s =
-    ap (drop (n + w)) h ∙ (ap (λ (i : ℕ). drop (i + w) (es ++ drop n s)) (sym e) ∙ (drop-append-add es (drop n s) w ∙ drop-drop w n s)) in
+    ap (drop (n + w)) h.bytes ∙ (ap (λ (i : ℕ). drop (i + w) (es ++ drop n s)) (sym h.long) ∙ (drop-append-add es (drop n s) w ∙ drop-drop w n s)) in
     let regroup = append_assoc es fs (drop (n + w) s) in
-    cc
+    record { long = omega (arith, length-append es fs); bytes = cc }
 
 pub two : (s : List ℕ) (a b : ℕ) → 2 ≤ length s → set (set s 0 a) 1 b ≡ (a ∷ b ∷ []) ++ drop 2 s
 two [] a b h = absurd (omega arith)

@@ -6,13 +6,13 @@ use Rattle.board.specs.declared.refusal.Layer.TheVariants.{Panel}
 use Rattle.board.specs.declared.refusal.Refusal.{Refusal}
 use Rattle.door.specs.declared.shown.ReportRow.{ReportRow}
 use Rattle.report.specs.declared.fields.Fields.{Fields}
-use Rattle.report.specs.Fields.{fields_between, map_of, one_byte, four_bytes, record_size}
+use Rattle.report.specs.Fields.{fields_between, map_of, one_byte, four_bytes, field_bytes, record_size}
 
 -- bit map, door, and then the fields that are there, in order
 unfoldable pub encoded : ℕ → Fields → List ℕ
 encoded d f =
-    ((((((((map_of f ∷ d ∷ []) ++ one_byte f.present_value) ++ one_byte f.status_flags) ++ one_byte f.door_alarm_state) ++ one_byte f.door_status)
-    ++ one_byte f.lock_status) ++ one_byte f.secured_status) ++ one_byte f.output) ++ four_bytes f.released_tenths
+    ((((((((map_of f ∷ d ∷ []) ++ field_bytes one_byte f.present_value) ++ field_bytes one_byte f.status_flags) ++ field_bytes one_byte f.door_alarm_state) ++ field_bytes one_byte f.door_status)
+    ++ field_bytes one_byte f.lock_status) ++ field_bytes one_byte f.secured_status) ++ field_bytes one_byte f.output) ++ field_bytes four_bytes f.released_tenths
 
 -- a door whose row is as last reported has no record
 abbrev pub door_bytes : ℕ → Fields → List ℕ

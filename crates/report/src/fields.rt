@@ -1,10 +1,11 @@
-ghost use Rattle.std.specs.Prelude.{◌≡◌, ◌≤◌};
-ghost use Rattle.report.specs.Fields.{if_new, fields_between, bit_of, map_of, width, wide_width, record_size};
+ghost use Rattle.std.specs.Prelude.{◌≡◌, ◌≤◌, cond, Some, None};
+ghost use Rattle.report.specs.Fields.{fields_between, bit_of, map_of, width, record_size};
 
+use crate::value::FieldValue;
 use door::shown::ReportRow;
 
 /// Of each of the eight fields of a row, a value or none.
-#[derive(Clone, Copy)]
+#[derive(Clone, Copy, PartialEq, Eq)]
 pub struct Fields {
     pub present_value: Option<u8>,
     pub status_flags: Option<u8>,
@@ -16,56 +17,24 @@ pub struct Fields {
     pub released_tenths: Option<u32>,
 }
 
-fn if_new(last: u8, value: u8) -> Option<u8>
-    ensures { result ≡ if_new last value }
+fn if_new<V: PartialEq + Copy>(last: V, value: V) -> Option<V>
+    ensures { result ≡ cond (V.eq last value) None (Some value) }
 {
     if last == value { None } else { Some(value) }
 }
 
-fn if_new_tenths(last: u32, value: u32) -> Option<u32>
-    ensures { result ≡ if_new last value }
-{
-    if last == value { None } else { Some(value) }
-}
-
-fn bit_of(value: Option<u8>, bit: u8) -> u8
+fn bit_of<V: Copy>(value: Option<V>, bit: u8) -> u8
     ensures value { result ≡ bit_of value bit }
     ensures most { result ≤ bit }
 {
-    match value {
-        Some(_) => bit,
-        None => 0,
-    }
+    if value.is_some() { bit } else { 0 }
 }
 
-fn tenths_bit_of(value: Option<u32>) -> u8
-    ensures value { result ≡ bit_of value 128 }
-    ensures most { result ≤ 128 }
+fn width_of<const N: usize, V: FieldValue<N>>(value: Option<V>) -> usize
+    ensures value { result ≡ width N value }
+    ensures most { result ≤ N }
 {
-    match value {
-        Some(_) => 128,
-        None => 0,
-    }
-}
-
-fn width_of(value: Option<u8>) -> usize
-    ensures value { result ≡ width value }
-    ensures most { result ≤ 1 }
-{
-    match value {
-        Some(_) => 1,
-        None => 0,
-    }
-}
-
-fn tenths_width_of(value: Option<u32>) -> usize
-    ensures value { result ≡ wide_width value }
-    ensures most { result ≤ 4 }
-{
-    match value {
-        Some(_) => 4,
-        None => 0,
-    }
+    if value.is_some() { N } else { 0 }
 }
 
 impl Fields {
@@ -81,7 +50,7 @@ impl Fields {
             lock_status: if_new(last.lock_status, row.lock_status),
             secured_status: if_new(last.secured_status, row.secured_status),
             output: if_new(last.output, row.output),
-            released_tenths: if_new_tenths(last.released_tenths, row.released_tenths),
+            released_tenths: if_new(last.released_tenths, row.released_tenths),
         }
     }
 
@@ -96,7 +65,7 @@ impl Fields {
             + bit_of(self.lock_status, 16)
             + bit_of(self.secured_status, 32)
             + bit_of(self.output, 64)
-            + tenths_bit_of(self.released_tenths)
+            + bit_of(self.released_tenths, 128)
     }
 
     /// How many bytes a record with these fields takes.
@@ -111,6 +80,6 @@ impl Fields {
             + width_of(self.lock_status)
             + width_of(self.secured_status)
             + width_of(self.output)
-            + tenths_width_of(self.released_tenths)
+            + width_of(self.released_tenths)
     }
 }

@@ -1,59 +1,30 @@
 ghost use Rattle.std.specs.Prelude.{◌≡◌, ◌+◌, ◌<◌, ◌≤◌, ◌∷◌, ◌++◌, length, take, drop};
-ghost use Rattle.report.specs.Fields.{width, wide_width, record_size, one_byte, four_bytes, fields_between};
-ghost use Rattle.report.specs.Writing.{encoded, door_size, door_bytes, doors_in, report_bytes, report_answer, report_buffer};
+ghost use Rattle.report.specs.Fields.{width, record_size, field_bytes, fields_between};
+ghost use Rattle.report.specs.Writing.{encoded, door_size, door_bytes, report_bytes, report_answer, report_buffer};
+ghost use Rattle.std.specs.Iterator.Adapters.{zip_first, zip_second};
+ghost use Rattle.std.specs.Slice.Iter.{iter_rest};
 
 use crate::fields::Fields;
+use crate::value::FieldValue;
 use board::refusal::{Cause, Layer, Refusal};
 use door::shown::ReportRow;
+use std::iter::Zip;
+use std::ops::Range;
+use std::slice::Iter;
 
-/// A field of one byte at the start of the rest of the buffer, if it is there.
-fn put_first(rest: &mut [u8], value: Option<u8>) -> usize
-    requires { width value ≤ length rest.old }
-    ensures count { result ≡ width value }
-    ensures after { rest.new ≡ one_byte value ++ drop (width value) rest.old }
+/// A field from a place of the rest of the buffer on, if it is there; answers where the next field begins.
+fn put<const N: usize, V: FieldValue<N>>(rest: &mut [u8], at: usize, value: Option<V>) -> usize
+    requires { at + width N value ≤ length rest.old }
+    ensures next { result ≡ at + width N value }
+    ensures after { rest.new ≡ take at rest.old ++ (field_bytes V.bytes_of value ++ drop (at + width N value) rest.old) }
 {
     match value {
         Some(v) => {
-            rest[0] = v;
-            1
+            rest[at..at + N].copy_from_slice(&v.to_bytes());
+            at + N
         }
-        None => 0,
+        None => at,
     }
-}
-
-/// The released tenths at the start of the rest of the buffer, high byte first, if they are there.
-fn put_first_tenths(rest: &mut [u8], value: Option<u32>) -> usize
-    requires { wide_width value ≤ length rest.old }
-    ensures count { result ≡ wide_width value }
-    ensures after { rest.new ≡ four_bytes value ++ drop (wide_width value) rest.old }
-{
-    match value {
-        Some(v) => {
-            rest[0] = (v / 16_777_216) as u8;
-            rest[1] = (v / 65_536 % 256) as u8;
-            rest[2] = (v / 256 % 256) as u8;
-            rest[3] = (v % 256) as u8;
-            4
-        }
-        None => 0,
-    }
-}
-
-/// The same from a place on; answers where the next field begins.
-fn put(rest: &mut [u8], at: usize, value: Option<u8>) -> usize
-    requires { at + width value ≤ length rest.old }
-    ensures next { result ≡ at + width value }
-    ensures after { rest.new ≡ take at rest.old ++ (one_byte value ++ drop (at + width value) rest.old) }
-{
-    at + put_first(&mut rest[at..], value)
-}
-
-fn put_tenths(rest: &mut [u8], at: usize, value: Option<u32>) -> usize
-    requires { at + wide_width value ≤ length rest.old }
-    ensures next { result ≡ at + wide_width value }
-    ensures after { rest.new ≡ take at rest.old ++ (four_bytes value ++ drop (at + wide_width value) rest.old) }
-{
-    at + put_first_tenths(&mut rest[at..], value)
 }
 
 /// A record at the start of the rest of the buffer.
@@ -71,7 +42,7 @@ fn write_record(rest: &mut [u8], door: u8, fields: &Fields) -> usize
     let e = put(rest, d, fields.lock_status);
     let f = put(rest, e, fields.secured_status);
     let g = put(rest, f, fields.output);
-    put_tenths(rest, g, fields.released_tenths)
+    put(rest, g, fields.released_tenths)
 }
 
 fn size_of_door(last: &ReportRow, row: &ReportRow) -> usize
@@ -98,26 +69,25 @@ fn write_door(rest: &mut [u8], door: u8, last: &ReportRow, row: &ReportRow) -> u
     write_record(rest, door, &fields)
 }
 
-/// How many doors a report is of.
-fn doors_in(last: &[ReportRow], rows: &[ReportRow]) -> usize
-    ensures value { result ≡ doors_in last.now rows.now }
-    ensures most { result ≤ 64 }
-    ensures last { result ≤ length last.now }
-    ensures rows { result ≤ length rows.now }
+/// The doors of a report, each with its row last reported and its row.
+fn doors_of<'a>(
+    last: &'a [ReportRow],
+    rows: &'a [ReportRow],
+) -> Zip<Range<u8>, Zip<Iter<'a, ReportRow>, Iter<'a, ReportRow>>>
+    ensures doors { zip_first result ≡ record { start = 0; end = 64 } }
+    ensures last { iter_rest (zip_first (zip_second result)) ≡ last.now }
+    ensures rows { iter_rest (zip_second (zip_second result)) ≡ rows.now }
 {
-    last.len().min(rows.len()).min(64)
+    (0..64).zip(last.iter().zip(rows))
 }
 
 /// How many bytes the report takes.
 fn report_size(last: &[ReportRow], rows: &[ReportRow]) -> usize
     ensures { result ≡ length (report_bytes last.now rows.now) }
 {
-    let mut size = 0;
-    let doors = doors_in(last, rows);
-    for door in 0..doors {
-        size += size_of_door(&last[door], &rows[door]);
-    }
-    size
+    doors_of(last, rows)
+        .map(|(_, (last, row))| size_of_door(last, row))
+        .sum()
 }
 
 /// Writes what has changed since the rows last reported, each record into the rest of the buffer.
@@ -136,10 +106,9 @@ pub fn write_report(
             place: 0,
         });
     }
-    let doors = doors_in(last, rows);
     let mut at = 0;
-    for door in 0..doors {
-        at += write_door(&mut buffer[at..], door as u8, &last[door], &rows[door]);
+    for (door, (last, row)) in doors_of(last, rows) {
+        at += write_door(&mut buffer[at..], door, last, row);
     }
     Ok(at)
 }

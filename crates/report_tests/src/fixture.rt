@@ -203,59 +203,9 @@ pub const EDGES: [Edge; 8] = [
     },
 ];
 
-fn same_row(rt: &impl Abort, row: &ReportRow, wanted: &ReportRow) -> Result<(), Fail> {
-    assert_eq!(rt; row.present_value, wanted.present_value, "present_value");
-    assert_eq!(rt; row.status_flags, wanted.status_flags, "status_flags");
-    assert_eq!(rt;
-        row.door_alarm_state,
-        wanted.door_alarm_state,
-        "door_alarm_state"
-    );
-    assert_eq!(rt; row.door_status, wanted.door_status, "door_status");
-    assert_eq!(rt; row.lock_status, wanted.lock_status, "lock_status");
-    assert_eq!(rt; row.secured_status, wanted.secured_status, "secured_status");
-    assert_eq!(rt; row.output, wanted.output, "output");
-    assert_eq!(rt;
-        row.released_tenths,
-        wanted.released_tenths,
-        "released_tenths"
-    );
-    Ok(())
-}
-
-pub(crate) fn same_rows(
-    rt: &impl Abort,
-    mirror: &[ReportRow],
-    rows: &[ReportRow],
-) -> Result<(), Fail> {
-    assert!(rt; mirror.len() == rows.len());
-    for door in 0..rows.len() {
-        same_row(rt, &mirror[door], &rows[door])?;
-    }
-    Ok(())
-}
-
-pub(crate) fn same_fields(rt: &impl Abort, fields: &Fields, wanted: &Fields) {
-    assert_eq!(rt; fields.present_value, wanted.present_value, "present_value");
-    assert_eq!(rt; fields.status_flags, wanted.status_flags, "status_flags");
-    assert_eq!(rt;
-        fields.door_alarm_state,
-        wanted.door_alarm_state,
-        "door_alarm_state"
-    );
-    assert_eq!(rt; fields.door_status, wanted.door_status, "door_status");
-    assert_eq!(rt; fields.lock_status, wanted.lock_status, "lock_status");
-    assert_eq!(rt;
-        fields.secured_status,
-        wanted.secured_status,
-        "secured_status"
-    );
-    assert_eq!(rt; fields.output, wanted.output, "output");
-    assert_eq!(rt;
-        fields.released_tenths,
-        wanted.released_tenths,
-        "released_tenths"
-    );
+// A refusal that no test wants.
+pub(crate) fn failed(refusal: Refusal) -> Fail {
+    Fail::new(refusal.cause.number())
 }
 
 // The numbers of the cause and of the layer, and the place.
@@ -294,21 +244,18 @@ pub(crate) fn refuses(
 // Reading answers the end, and again the end.
 pub(crate) fn ends(reader: &mut Reader<'_>) -> Result<(), Fail> {
     for _ in 0..2 {
-        match reader.next() {
-            Ok(None) => {}
-            Ok(Some(_)) => return Err(Fail::new("a record in place of the end")),
-            Err(refusal) => return Err(Fail::new(refusal.cause.number())),
+        if reader.next().map_err(failed)?.is_some() {
+            return Err(Fail::new("a record in place of the end"));
         }
     }
     Ok(())
 }
 
 pub(crate) fn next_record(reader: &mut Reader<'_>) -> Result<Record, Fail> {
-    match reader.next() {
-        Ok(Some(record)) => Ok(record),
-        Ok(None) => Err(Fail::new("the end in place of a record")),
-        Err(refusal) => Err(Fail::new(refusal.cause.number())),
-    }
+    reader
+        .next()
+        .map_err(failed)?
+        .ok_or_else(|| Fail::new("the end in place of a record"))
 }
 
 // The next record is this one.
@@ -321,6 +268,6 @@ pub(crate) fn reads(
 ) -> Result<(), Fail> {
     let record = next_record(reader)?;
     assert_eq!(rt; (record.offset, record.door), (offset, door));
-    same_fields(rt, &record.fields, fields);
+    assert!(rt; record.fields == *fields);
     Ok(())
 }

@@ -1,4 +1,4 @@
-use crate::fixture::{EDGES, LEAST, MADE, MOST, ends, next_record, same_rows};
+use crate::fixture::{EDGES, LEAST, MADE, MOST, ends, failed, next_record};
 use door::shown::ReportRow;
 use mirror::apply::apply;
 use mirror::reader::Reader;
@@ -14,20 +14,16 @@ fn goes_round(
     records: usize,
 ) -> Result<(), Fail> {
     let mut buffer = [0; 832];
-    let size = match report_to_mirror(mirror, rows, &mut buffer) {
-        Ok(size) => size,
-        Err(refusal) => return Err(Fail::new(refusal.cause.number())),
-    };
+    let size = report_to_mirror(mirror, rows, &mut buffer).map_err(failed)?;
     assert!(rt; size <= 832);
     let mut reader = Reader::new(&buffer[0..size], 0, mirror.len());
     for _ in 0..records {
         let record = next_record(&mut reader)?;
-        if let Err(refusal) = apply(mirror, &record) {
-            return Err(Fail::new(refusal.cause.number()));
-        }
+        apply(mirror, &record).map_err(failed)?;
     }
     ends(&mut reader)?;
-    same_rows(rt, mirror, rows)
+    assert!(rt; &mirror[..] == rows);
+    Ok(())
 }
 
 #[test]

@@ -1,4 +1,4 @@
-use crate::fixture::{EDGES, FILL, LEAST, MADE, MOST, is_refusal};
+use crate::fixture::{EDGES, FILL, LEAST, MADE, MOST, failed, is_refusal};
 use door::shown::ReportRow;
 use report::write::write_report;
 use std::process::Abort;
@@ -11,13 +11,9 @@ fn writes(
     buffer: &mut [u8],
     wanted: usize,
 ) -> Result<(), Fail> {
-    match write_report(last, rows, buffer) {
-        Ok(count) => {
-            assert_eq!(rt; count, wanted);
-            Ok(())
-        },
-        Err(refusal) => Err(Fail::new(refusal.cause.number())),
-    }
+    let count = write_report(last, rows, buffer).map_err(failed)?;
+    assert_eq!(rt; count, wanted);
+    Ok(())
 }
 
 // The buffer is too short, and each byte of it stays.
@@ -27,16 +23,12 @@ fn is_too_long(
     rows: &[ReportRow],
     buffer: &mut [u8],
 ) -> Result<(), Fail> {
-    for byte in buffer.iter_mut() {
-        *byte = FILL;
-    }
+    buffer.fill(FILL);
     match write_report(last, rows, buffer) {
         Ok(_) => return Err(Fail::new("no refusal")),
         Err(refusal) => is_refusal(rt, refusal, (13, 2, 0))?,
     }
-    for byte in buffer.iter() {
-        assert_eq!(rt; *byte, FILL);
-    }
+    assert!(rt; buffer.iter().all(|byte| *byte == FILL));
     Ok(())
 }
 
@@ -125,12 +117,9 @@ fn doors_rise_and_unchanged_ones_are_left_out(rt: HostRuntime) -> Result<(), Fai
 fn sixty_four_doors_take_832_bytes(rt: HostRuntime) -> Result<(), Fail> {
     let mut buffer = [FILL; 833];
     writes(&rt, &[LEAST; 64], &[MOST; 64], &mut buffer, 832)?;
-    let mut at = 0;
-    for door in 0..64u8 {
-        assert!(rt; at <= 820);
+    for (door, record) in (0..64u8).zip(buffer.chunks_exact(13)) {
         let wanted = [0xff, door, 3, 15, 8, 2, 3, 2, 1, 0x77, 0x35, 0x94, 0x00];
-        assert!(rt; &buffer[at..at + 13] == &wanted[..], "{}", door);
-        at += 13;
+        assert!(rt; record == &wanted[..], "{}", door);
     }
     assert_eq!(rt; buffer[832], FILL);
     writes(&rt, &[LEAST; 64], &[MOST; 64], &mut [0; 832], 832)

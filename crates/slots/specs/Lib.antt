@@ -1,4 +1,5 @@
 pub mod Value
 pub mod Sounder
 pub mod Priority
-pub mod Slots
+pub mod PriorityArray
+pub mod Timed

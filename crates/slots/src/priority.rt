@@ -7,10 +7,9 @@ use board::refusal::Cause;
 pub fn present_value<T: Copy>(slots: &[Option<T>], default: T) -> T
     ensures { result ≡ present slots.now default }
 {
-    for i in 0..slots.len() {
-        let slot = slots[i];
+    for slot in slots {
         if let Some(value) = slot {
-            return value;
+            return *value;
         }
     }
     default
@@ -21,8 +20,8 @@ pub fn slot_of(priority: u64) -> Result<usize, Cause>
     ensures value { result ≡ slot_answer priority }
     ensures within { Below16 result }
 {
-    if priority < 1 || priority > 16 || priority == 6 {
-        return Err(Cause::NoSuchPriority);
+    match priority {
+        1..=5 | 7..=16 => Ok(priority as usize - 1),
+        _ => Err(Cause::NoSuchPriority),
     }
-    Ok(priority as usize - 1)
 }

@@ -1,69 +1,61 @@
-ghost use Rattle.std.specs.Prelude.{◌≡◌};
-ghost use Rattle.slots.specs.Sounder.{sounder_empty, sounder_present, sounder_known, sounder_answer, sounder_value_number, sounder_value_of};
+ghost use Rattle.std.specs.Prelude.{◌≡◌, ok_or, Some};
+ghost use Rattle.slots.specs.Sounder.{sounder_empty, sounder_present, sounder_answer, sounder_value_number, sounder_value_of};
+ghost use Rattle.board.specs.declared.refusal.Cause.TheVariants.{ValueOutOfRange};
 
-use crate::priority::{present_value, slot_of};
+use crate::priority::slot_of;
+use crate::priority_array::PriorityArray;
+use crate::value::value_of;
 use board::refusal::Cause;
 
 /// What the sounder can be commanded to. Its default is INACTIVE.
 #[derive(Clone, Copy)]
 pub enum SounderValue {
-    Inactive,
-    Active,
+    Inactive = 0,
+    Active = 1,
 }
 
 impl SounderValue {
     pub fn number(self) -> u8
         ensures { result ≡ sounder_value_number self }
     {
-        match self {
-            SounderValue::Inactive => 0,
-            SounderValue::Active => 1,
-        }
+        self as u8
     }
+}
 
-    /// The value with that number, if there is one.
-    pub fn of_number(number: u64) -> Option<SounderValue>
-        ensures { result ≡ sounder_value_of number }
-    {
+impl TryFrom<u64> for SounderValue {
+    type Error = Cause;
+
+    ghost try_from_gives = { λ number r. r ≡ ok_or (sounder_value_of number) ValueOutOfRange };
+
+    fn try_from(number: u64) -> Result<SounderValue, Cause> {
         match number {
-            0 => Some(SounderValue::Inactive),
-            1 => Some(SounderValue::Active),
-            _ => None,
+            0 => Ok(SounderValue::Inactive),
+            1 => Ok(SounderValue::Active),
+            _ => Err(Cause::ValueOutOfRange),
         }
     }
 }
 
-/// The sixteen slots of the sounder, that of priority p at place p - 1; an empty one is NULL.
+/// The sixteen slots of the sounder.
 #[derive(Clone, Copy)]
 pub struct Sounder {
-    pub slots: [Option<SounderValue>; 16],
-}
-
-/// NULL, or the value with that number.
-fn value_of(number: Option<u64>) -> Result<Option<SounderValue>, Cause>
-    ensures { result ≡ sounder_known number }
-{
-    let Some(n) = number else {
-        return Ok(None);
-    };
-    match SounderValue::of_number(n) {
-        Some(value) => Ok(Some(value)),
-        None => Err(Cause::ValueOutOfRange),
-    }
+    pub slots: PriorityArray<SounderValue>,
 }
 
 impl Sounder {
     pub fn at_making() -> Sounder
         ensures { result ≡ sounder_empty }
     {
-        Sounder { slots: [None; 16] }
+        Sounder {
+            slots: PriorityArray::empty(),
+        }
     }
 
     /// The value that rules, by the priority rule.
     pub fn present(&self) -> SounderValue
         ensures { result ≡ sounder_present self.now }
     {
-        present_value(&self.slots, SounderValue::Inactive)
+        self.slots.present(SounderValue::Inactive)
     }
 
     /// Writes a value, or NULL, at a priority.
@@ -73,7 +65,7 @@ impl Sounder {
         let place = slot_of(priority)?;
         let known = value_of(value)?;
         let mut slots = self.slots;
-        slots[place] = known;
+        slots.write(place, known);
         Ok(Sounder { slots })
     }
 }

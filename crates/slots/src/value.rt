@@ -1,44 +1,31 @@
-ghost use Rattle.std.specs.Prelude.{◌≡◌};
-ghost use Rattle.slots.specs.Value.{door_value_number, door_value_of, is_pulse, is_lock};
+ghost use Rattle.std.specs.Prelude.{◌≡◌, ok_or, Some};
+ghost use Rattle.slots.specs.Value.{door_value_number, door_value_of, door_value_name, is_pulse, is_lock};
+ghost use Rattle.slots.specs.Value.{ValueAnswer};
+ghost use Rattle.board.specs.declared.refusal.Cause.TheVariants.{ValueOutOfRange};
+
+use board::refusal::Cause;
+use std::fmt;
 
 /// What a door can be commanded to.
-#[derive(Clone, Copy)]
+#[derive(Clone, Copy, PartialEq, Eq)]
 pub enum DoorValue {
-    Lock,
-    Unlock,
-    PulseUnlock,
-    ExtendedPulseUnlock,
+    Lock = 0,
+    Unlock = 1,
+    PulseUnlock = 2,
+    ExtendedPulseUnlock = 3,
 }
 
 impl DoorValue {
     pub fn number(self) -> u8
         ensures { result ≡ door_value_number self }
     {
-        match self {
-            DoorValue::Lock => 0,
-            DoorValue::Unlock => 1,
-            DoorValue::PulseUnlock => 2,
-            DoorValue::ExtendedPulseUnlock => 3,
-        }
-    }
-
-    /// The value with that number, if there is one.
-    pub fn of_number(number: u64) -> Option<DoorValue>
-        ensures { result ≡ door_value_of number }
-    {
-        match number {
-            0 => Some(DoorValue::Lock),
-            1 => Some(DoorValue::Unlock),
-            2 => Some(DoorValue::PulseUnlock),
-            3 => Some(DoorValue::ExtendedPulseUnlock),
-            _ => None,
-        }
+        self as u8
     }
 
     pub fn is_lock(self) -> bool
         ensures { result ≡ is_lock self }
     {
-        matches!(self, DoorValue::Lock)
+        self == DoorValue::Lock
     }
 
     /// A value that ends by itself.
@@ -50,4 +37,40 @@ impl DoorValue {
             DoorValue::PulseUnlock | DoorValue::ExtendedPulseUnlock
         )
     }
+}
+
+impl TryFrom<u64> for DoorValue {
+    type Error = Cause;
+
+    ghost try_from_gives = { λ number r. r ≡ ok_or (door_value_of number) ValueOutOfRange };
+
+    fn try_from(number: u64) -> Result<DoorValue, Cause> {
+        match number {
+            0 => Ok(DoorValue::Lock),
+            1 => Ok(DoorValue::Unlock),
+            2 => Ok(DoorValue::PulseUnlock),
+            3 => Ok(DoorValue::ExtendedPulseUnlock),
+            _ => Err(Cause::ValueOutOfRange),
+        }
+    }
+}
+
+impl fmt::Display for DoorValue {
+    ghost output = { λ value. Some (door_value_name value) };
+
+    fn fmt<W: fmt::Write>(&self, f: &mut fmt::Formatter<W>) -> fmt::Result {
+        f.write_str(match self {
+            DoorValue::Lock => "LOCK",
+            DoorValue::Unlock => "UNLOCK",
+            DoorValue::PulseUnlock => "PULSE_UNLOCK",
+            DoorValue::ExtendedPulseUnlock => "EXTENDED_PULSE_UNLOCK",
+        })
+    }
+}
+
+/// NULL, or the value with that number.
+pub fn value_of<V: TryFrom<u64, Error = Cause>>(number: Option<u64>) -> Result<Option<V>, Cause>
+    ensures { ValueAnswer V.try_from_gives number result }
+{
+    number.map(|n| V::try_from(n)).transpose()
 }

@@ -1,13 +1,13 @@
 -- The runs of all doors, door by door. Assumes nothing.
 use Rattle.std.proofs.Common.{◌≡◌, ℕ, ◌+◌, ◌<◌, ◌≤◌, List, length, get_or, take, drop, set, sym, ap, ◌∙◌, arith}
-use Rattle.std.proofs.lemmas.List.{drop_more, drop-set-lt, length-take-le, get_or-take}
-use Rattle.board.specs.Held.{Held, each}
+use Rattle.std.proofs.lemmas.List.{drop_more, drop-set-lt, get_or-take}
+use Rattle.board.specs.Held.{each}
 use Rattle.board.specs.declared.status.DoorStatus.{DoorStatus}
 use Rattle.board.specs.declared.status.DoorStatus.TheVariants.{Closed}
 use Rattle.board.proofs.Filled.{filled_more}
 use Rattle.steady.specs.declared.run.Run.{Run}
 use Rattle.steady.specs.Run.{no_run, run_after}
-use Rattle.steady.specs.Steady.{Layer, runs_after}
+use Rattle.steady.specs.Steady.{Layer}
 
 -- the run of door d after a tick that left the contacts cs, where old held n doors' runs
 abbrev pub next_run : ℕ → ℕ → List Run → List DoorStatus → ℕ → Run
@@ -30,12 +30,3 @@ step_runs k n i old new ys cs l few len e r w =
 
 abbrev pub layer : {M : Type 0} → M → ℕ → List Run → Layer M
 layer m k rs = record { below = m; count = k; runs = rs }
-
--- the layer after its loop, by the parts of it
-pub layer_after : {M : Type 0} (held : M → Held) (m m' : M) (k k' n i : ℕ) (old new : List Run) → m ≡ m' → k' ≡ k → i ≡ n → (held m).doors ≡ n → n ≤ length old → take i new ≡ each i (next_run k n old (held m).inputs.contacts) → layer m k' (take (held m).doors new) ≡ layer m' k (runs_after k (take n old) (held m').inputs.contacts)
-layer_after held m m' k k' n i old new e f j c l d =
-    let cs = (held m).inputs.contacts in
-    let g = next_run k n old cs in
-    let t : take (held m).doors new ≡ each n g = ap (λ x. take x new) (c ∙ sym j) ∙ d ∙ ap (λ x. each x g) j in
-    let u : each n g ≡ runs_after k (take n old) cs = ap (λ x. each x g) (sym (length-take-le n old l)) in
-    ap (λ x. layer m x (take (held m).doors new)) f ∙ ap (layer m k) (t ∙ u) ∙ ap (λ x. layer x k (runs_after k (take n old) (held x).inputs.contacts)) e

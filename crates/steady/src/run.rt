@@ -28,12 +28,10 @@ impl Run {
     pub fn after(self, count: u8, came: DoorStatus) -> Run
         ensures { result ≡ run_after count self came }
     {
-        let ticks = if self.last != came {
-            1
-        } else if self.ticks < 255 {
-            self.ticks + 1
+        let ticks = if self.last == came {
+            self.ticks.saturating_add(1)
         } else {
-            255
+            1
         };
         let shown = if count <= ticks { came } else { self.shown };
         Run {

@@ -1,3 +1,3 @@
-pub mod Cuts
+pub mod Places
 pub mod LineCuts
 pub mod WordCuts

@@ -1,58 +1,63 @@
 -- The first word of a line, and the words after it. Assumes nothing.
-use Rattle.std.proofs.Common.{◌≡◌, ℕ, suc, ◌-◌, ◌<◌, true, false, cond, eqb, List, [], ◌∷◌, length, get_or, take, drop, sym, refl, ap, ◌∙◌, arith}
-use Rattle.std.proofs.lemmas.List.{nil_from_length, take_rest}
-use Rattle.std.proofs.lemmas.Bool.{true≢false, eqb-true, cond-true, cond-false, cond_both}
-use Rattle.text.specs.Words.{blank, comment, before_comment, word_ends, words_of, skip_blanks}
-use Rattle.text.specs.Scan.{until, in_front}
+use Rattle.std.proofs.Common.{◌≡◌, ℕ, suc, Bool, true, false, not, cond, eqb, List, [], ◌∷◌, length, take, drop, sym, refl, ap, ◌∙◌, subst, arith}
+use Rattle.std.specs.List.{before_first, position_or_len, onto_first}
+use Rattle.std.proofs.lemmas.Bool.{true≢false, not-false, not-true, eqb-true, cond-true, cond-false, cond_both}
+use Rattle.text.specs.Words.{blank, word_ends, words_of}
+use Rattle.text.proofs.Places.{place-cons}
 
-pub take_comment : (bs : List ℕ) → take (until comment bs) bs ≡ before_comment bs
-take_comment [] = refl
-take_comment (b ∷ bs) =
-    elim (comment b) as (λ t. take (cond t 0 (suc (until comment bs))) (b ∷ bs) ≡ cond t [] (b ∷ before_comment bs)) [ true ↦ refl | false ↦ ap (λ l. b ∷ l) (take_comment bs) ]
+abbrev pub no_blank : ℕ → Bool
+no_blank b = not (blank b)
 
--- a turn of the loop that skips blanks, and its end; `&rest[1..]` is the `take` here
-pub skip_more : (rest : List ℕ) {bs : List ℕ} → 0 < length rest → true ≡ blank (get_or rest 0 0) → skip_blanks rest ≡ bs → skip_blanks (take (length rest - 1) (drop 1 rest)) ≡ bs
-skip_more [] some e s = absurd (omega arith)
-skip_more (b ∷ rest) some e s = ap skip_blanks (take_rest (b ∷ rest) 1) ∙ sym (cond-true (blank b) _ _ (sym e)) ∙ s
-
-pub skip_all : (rest : List ℕ) {bs : List ℕ} → length rest < 1 → skip_blanks rest ≡ bs → rest ≡ bs
-skip_all [] none s = s
-skip_all (b ∷ rest) none s = absurd (omega arith)
-
-skip_step : (b : ℕ) (bs : List ℕ) → blank b ≡ true → words_of (b ∷ bs) ≡ words_of bs
-skip_step b bs e = cond-true (blank b) _ _ e
+-- what stands behind the blanks in front
+abbrev pub skip_blanks : List ℕ → List ℕ
+skip_blanks bs = drop (position_or_len no_blank bs) bs
 
 skipped : (bs : List ℕ) → words_of (skip_blanks bs) ≡ words_of bs
 skipped [] = refl
-skipped (b ∷ bs) = cond_both (blank b) (skip_blanks bs) (b ∷ bs) (λ l. words_of l ≡ words_of (b ∷ bs)) (λ e. skipped bs ∙ sym (skip_step b bs e)) (λ e. refl)
+skipped (b ∷ bs) =
+    let Same : ℕ → Type 0 = λ m. words_of (drop m (b ∷ bs)) ≡ words_of (b ∷ bs) in
+    subst Same (sym (place-cons no_blank b bs)) (cond_both (no_blank b) 0 (suc (position_or_len no_blank bs)) Same (λ e. refl) (λ e. skipped bs ∙ sym (cond-true (blank b) _ _ (not-false _ e))))
 
--- where the blanks are skipped, a word begins or nothing is left
-starts : (bs : List ℕ) → eqb (length (skip_blanks bs)) 0 ≡ false → word_ends (skip_blanks bs) ≡ false
-starts [] e = e
-starts (b ∷ bs) e = cond_both (blank b) (skip_blanks bs) (b ∷ bs) (λ l. eqb (length l) 0 ≡ false → word_ends l ≡ false) (λ e. starts bs) (λ e _. e) e
+-- where the first blank of a word's rest stands
+first_blank : (b : ℕ) (bs : List ℕ) → blank b ≡ false → position_or_len blank (b ∷ bs) ≡ suc (position_or_len blank bs)
+first_blank b bs e = place-cons blank b bs ∙ cond-false (blank b) _ _ e
 
-ends_here : (bs : List ℕ) → word_ends bs ≡ true → until blank bs ≡ 0
+ends_here : (bs : List ℕ) → word_ends bs ≡ true → position_or_len blank bs ≡ 0
 ends_here [] e = refl
-ends_here (b ∷ bs) e = cond-true (blank b) _ _ e
+ends_here (b ∷ bs) e = place-cons blank b bs ∙ cond-true (blank b) _ _ e
 
-word_cut : (bs : List ℕ) → word_ends bs ≡ false → words_of bs ≡ take (until blank bs) bs ∷ words_of (drop (until blank bs) bs)
+word_cut : (bs : List ℕ) → word_ends bs ≡ false → words_of bs ≡ before_first blank bs ∷ words_of (drop (position_or_len blank bs) bs)
 word_cut [] e = absurd (true≢false e)
 word_cut (b ∷ bs) e =
-    let n = until blank bs in
+    let n = position_or_len blank bs in
     let Cut : List (List ℕ) → Type 0 = λ ws. ws ≡ (b ∷ take n bs) ∷ words_of (drop n bs) in
-    let len : until blank (b ∷ bs) ≡ suc n = cond-false (blank b) _ _ e in
-    let one : words_of (b ∷ bs) ≡ cond (word_ends bs) ((b ∷ []) ∷ words_of bs) (in_front b (words_of bs)) = cond-false (blank b) _ _ e in
-    let cut : Cut (cond (word_ends bs) ((b ∷ []) ∷ words_of bs) (in_front b (words_of bs))) =
-    cond_both (word_ends bs) _ _ Cut (λ at_end. ap (λ m. (b ∷ take m bs) ∷ words_of (drop m bs)) (sym (ends_here bs at_end))) (λ on. ap (in_front b) (word_cut bs on)) in
-    one ∙ cut ∙ ap (λ m. take m (b ∷ bs) ∷ words_of (drop m (b ∷ bs))) (sym len)
+    let one : words_of (b ∷ bs) ≡ cond (word_ends bs) ((b ∷ []) ∷ words_of bs) (onto_first b (words_of bs)) = cond-false (blank b) _ _ e in
+    let cut : Cut (cond (word_ends bs) ((b ∷ []) ∷ words_of bs) (onto_first b (words_of bs))) =
+    cond_both (word_ends bs) _ _ Cut (λ at_end. ap (λ m. (b ∷ take m bs) ∷ words_of (drop m bs)) (sym (ends_here bs at_end))) (λ on. ap (onto_first b) (word_cut bs on)) in
+    one ∙ cut ∙ ap (λ m. take m (b ∷ bs) ∷ words_of (drop m (b ∷ bs))) (sym (first_blank b bs e))
 
-pub next_word : (bs rest word after : List ℕ) (n : ℕ) → rest ≡ skip_blanks bs → eqb (length rest) 0 ≡ false → n ≡ until blank rest → word ≡ take n rest → after ≡ drop n rest → words_of bs ≡ word ∷ words_of after
-next_word bs rest word after n skip some e front back =
+-- a word that is not empty begins where it stands
+begins : (bs : List ℕ) → eqb (length (before_first blank bs)) 0 ≡ false → word_ends bs ≡ false
+begins [] e = e
+begins (b ∷ bs) e =
+    elim (word_ends (b ∷ bs)) as (λ t. word_ends (b ∷ bs) ≡ t → t ≡ false) [ true ↦ (λ at_end. absurd (true≢false (ap (λ m. eqb (length (take m (b ∷ bs))) 0) (sym (ends_here (b ∷ bs) at_end)) ∙ e))) | false ↦ (λ _. refl) ] refl
+
+-- where no word stands behind the blanks, nothing does
+emptied : (bs : List ℕ) → eqb (length (before_first blank (skip_blanks bs))) 0 ≡ true → skip_blanks bs ≡ []
+emptied [] e = refl
+emptied (b ∷ bs) e =
+    let Empty : ℕ → Type 0 = λ m. eqb (length (before_first blank (drop m (b ∷ bs)))) 0 ≡ true → drop m (b ∷ bs) ≡ [] in
+    subst Empty (sym (place-cons no_blank b bs)) (cond_both (no_blank b) 0 (suc (position_or_len no_blank bs)) Empty
+    (λ word e. let one : suc (length (take (position_or_len blank bs) bs)) ≡ 0 = eqb-true _ _ (ap (λ m. eqb (length (take m (b ∷ bs))) 0) (sym (first_blank b bs (not-true _ word))) ∙ e) in absurd (omega arith))
+    (λ _. emptied bs)) e
+
+pub next_word : (bs rest word after : List ℕ) → rest ≡ skip_blanks bs → word ≡ before_first blank rest → after ≡ drop (position_or_len blank rest) rest → eqb (length word) 0 ≡ false → words_of bs ≡ word ∷ words_of after
+next_word bs rest word after skip front back some =
     let all = skipped bs in
-    let cut = word_cut (skip_blanks bs) (starts bs (rw skip at some)) in
+    let cut = word_cut rest (begins rest (ap (λ w. eqb (length w) 0) (sym front) ∙ some)) in
     cc
 
-pub no_word : (bs rest : List ℕ) → rest ≡ skip_blanks bs → eqb (length rest) 0 ≡ true → (words_of bs ≡ []) × (words_of rest ≡ [])
-no_word bs rest skip e =
-    let none : words_of rest ≡ [] = ap words_of (nil_from_length rest (eqb-true _ _ e)) in
-    (sym (skipped bs) ∙ ap words_of (sym skip) ∙ none, none)
+pub no_word : (bs rest word after : List ℕ) → rest ≡ skip_blanks bs → word ≡ before_first blank rest → after ≡ drop (position_or_len blank rest) rest → eqb (length word) 0 ≡ true → (words_of bs ≡ []) × (words_of after ≡ [])
+no_word bs rest word after skip front back none =
+    let empty : rest ≡ [] = skip ∙ emptied bs (ap (λ r. eqb (length (before_first blank r)) 0) (sym skip) ∙ ap (λ w. eqb (length w) 0) (sym front) ∙ none) in
+    (sym (skipped bs) ∙ ap words_of (sym skip ∙ empty), ap words_of (back ∙ ap (λ r. drop (position_or_len blank r) r) empty))

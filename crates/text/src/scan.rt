@@ -1,15 +1,13 @@
-//! Looking for a byte.
-ghost use Rattle.std.specs.Prelude.{◌≡◌, nat_eq};
-ghost use Rattle.text.specs.Scan.{until};
+//! Looking for the first byte of a kind.
+ghost use Rattle.std.specs.Prelude.{◌≡◌, ℕ, Bool, drop};
+ghost use Rattle.std.specs.List.{before_first, position_or_len};
 
-/// Where `wanted` stands first in `bytes`, or their number where it does not stand there.
-pub fn place_of(wanted: u8, bytes: &[u8]) -> usize
-    ensures { result ≡ until (λ b. nat_eq b wanted) bytes.now }
+/// The bytes before the first that passes `test`, and the others: none of them where none passes.
+pub fn split_before<F: Fn(u8) -> bool>(bytes: &[u8], test: F) -> (&[u8], &[u8])
+    requires { F.IsAlwaysCallable test }
+    ensures { (p : ℕ → Bool) → ((b : ℕ) (r : Bool) → F.post test b r → r ≡ p b) →
+        (result.0.now ≡ before_first p bytes.now) × (result.1.now ≡ drop (position_or_len p bytes.now) bytes.now) }
 {
-    for (i, b) in bytes.iter().enumerate() {
-        if *b == wanted {
-            return i;
-        }
-    }
-    bytes.len()
+    let end = bytes.iter().position(|b| test(*b));
+    bytes.split_at(end.unwrap_or(bytes.len()))
 }

@@ -13,8 +13,7 @@ mod tests {
     // The lines of `text`, with a bar after each.
     fn barred_lines(heap: Global, text: &[u8]) -> Result<Vec<u8>, AllocError> {
         let mut out = Vec::new(heap);
-        let mut lines = Lines::of(text);
-        while let Some(line) = lines.next() {
+        for line in Lines::of(text) {
             out.extend_from_slice(line)?;
             out.push(b'|')?;
         }
@@ -24,8 +23,7 @@ mod tests {
     // The words of `line`, with a bar after each.
     fn barred_words(heap: Global, line: &[u8]) -> Result<Vec<u8>, AllocError> {
         let mut out = Vec::new(heap);
-        let mut words = Words::of(line);
-        while let Some(word) = words.next() {
+        for word in Words::of(line) {
             out.extend_from_slice(word)?;
             out.push(b'|')?;
         }
@@ -130,7 +128,7 @@ mod tests {
             ("0aFf", "0aff"),
             ("DEad90", "dead90"),
         ] {
-            let bytes = hex_bytes(rt.alloc(), word.as_bytes())??;
+            let bytes = hex_bytes(rt.alloc(), word.as_bytes())?;
             let again = hex_text(rt.alloc(), bytes.as_slice())?;
             assert!(rt; again.as_str() == want, "{}", word);
         }
@@ -146,7 +144,7 @@ mod tests {
             ("0g", HexFault::NotHex),
             ("x", HexFault::NotHex),
         ] {
-            match hex_bytes(rt.alloc(), word.as_bytes())? {
+            match hex_bytes(rt.alloc(), word.as_bytes()) {
                 Ok(_) => return Err(Fail::new(word)),
                 Err(fault) => assert!(rt; fault == want, "{}", word),
             }

@@ -1,4 +1,3 @@
 pub mod Fault
-pub mod Keyword
 pub mod Step
 pub mod List

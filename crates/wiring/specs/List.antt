@@ -1,7 +1,9 @@
 -- A whole wiring list: what its lines say, and which of them are faulty. Assumes nothing.
-use Rattle.std.specs.Prelude.{ℕ, ◌+◌, Bool, true, false, cond, ◌||◌, List, [], ◌∷◌, ◌++◌, Some, None, Ok, Err, Option, Result}
+use Rattle.std.specs.Prelude.{ℕ, ◌+◌, Bool, true, false, cond, ◌||◌, List, [], ◌∷◌, ◌++◌, Some, None, Ok, Err, codes, decimal, Option, Result}
 use Rattle.wiring.specs.declared.fault.Fault.{Fault}
-use Rattle.wiring.specs.declared.fault.Fault.TheVariants.{NoBoard}
+use Rattle.wiring.specs.declared.fault.Fault.TheVariants.{Word, NoBoard}
+use Rattle.line_words.specs.declared.fault.WordFault.{WordFault}
+use Rattle.wiring.specs.Fault.{fault_reason}
 use Rattle.wiring.specs.declared.list.LineFault.{LineFault}
 use Rattle.wiring.specs.Step.{Said, line_says}
 use Rattle.wiring.specs.Step.Said.{says_board, says_drive, says_tick, says_ask}
@@ -15,23 +17,26 @@ is_board says_ask = false
 abbrev pub at_line : ℕ → Fault → LineFault
 at_line n e = record { line = n; fault = e }
 
+abbrev pub line_fault_text : LineFault → List ℕ
+line_fault_text w = codes "line " ++ (decimal w.line ++ (codes ": " ++ fault_reason w.fault))
+
 -- what one line adds to the steps
-abbrev pub steps_in : Result (Option Said) Fault → List Said
+abbrev pub steps_in : Result (Option Said) WordFault → List Said
 steps_in (Ok None) = []
 steps_in (Ok (Some s)) = s ∷ []
 steps_in (Err e) = []
 
 -- whether a board may stand before the next line: a faulty line may have been meant for one
-abbrev pub started_after : Bool → Result (Option Said) Fault → Bool
+abbrev pub started_after : Bool → Result (Option Said) WordFault → Bool
 started_after b (Ok None) = b
 started_after b (Ok (Some s)) = b || is_board s
 started_after b (Err e) = true
 
 -- what line n adds to the faults
-abbrev pub faults_in : ℕ → Bool → Result (Option Said) Fault → List LineFault
+abbrev pub faults_in : ℕ → Bool → Result (Option Said) WordFault → List LineFault
 faults_in n b (Ok None) = []
 faults_in n b (Ok (Some s)) = cond (b || is_board s) [] (at_line n NoBoard ∷ [])
-faults_in n b (Err e) = at_line n e ∷ []
+faults_in n b (Err e) = at_line n (Word e) ∷ []
 
 abbrev pub steps_of : List (List ℕ) → List Said
 steps_of [] = []

@@ -1,33 +1,24 @@
-ghost use Rattle.std.specs.Prelude.{◌≡◌};
+ghost use Rattle.std.specs.Prelude.{Some};
 ghost use Rattle.wiring.specs.Fault.{fault_reason};
+
+use line_words::fault::WordFault;
+use std::fmt;
 
 /// What is wrong with a line.
 #[derive(Clone, Copy, PartialEq, Eq, Debug)]
 pub enum Fault {
-    UnknownWord,
-    MissingWord,
-    ExtraWord,
-    NotANumber,
-    NumberTooLarge,
-    NotHex,
-    OddHex,
+    Word(WordFault),
     /// A call that no board line stands before, or a list without one.
     NoBoard,
 }
 
-impl Fault {
-    pub fn reason(self) -> &'static str
-        ensures { result.now ≡ fault_reason self }
-    {
+impl fmt::Display for Fault {
+    ghost output = { λ fault. Some (fault_reason fault) };
+
+    fn fmt<W: fmt::Write>(&self, f: &mut fmt::Formatter<W>) -> fmt::Result {
         match self {
-            Fault::UnknownWord => "unknown word",
-            Fault::MissingWord => "a word is missing",
-            Fault::ExtraWord => "a word too many",
-            Fault::NotANumber => "not a number",
-            Fault::NumberTooLarge => "number too large",
-            Fault::NotHex => "not a hex digit",
-            Fault::OddHex => "odd number of hex digits",
-            Fault::NoBoard => "no board line before it",
+            Fault::Word(fault) => fault.fmt(f),
+            Fault::NoBoard => f.write_str("no board line before it"),
         }
     }
 }

@@ -2,6 +2,5 @@
 #![tactic(auto)]
 
 pub mod fault;
-mod keyword;
 pub mod list;
 pub mod step;

@@ -1,11 +1,13 @@
-ghost use Rattle.std.specs.Prelude.{◌≡◌, false, ◌||◌, [], ◌∷◌, ◌++◌, map, IfOk};
+ghost use Rattle.std.specs.Prelude.{◌≡◌, false, ◌||◌, [], ◌∷◌, ◌++◌, map, IfOk, OnOk, Some};
 ghost use Rattle.text.specs.Lines.{lines};
-ghost use Rattle.wiring.specs.Step.{said, answer_said};
-ghost use Rattle.wiring.specs.List.{is_board, at_line, steps_in, faults_in, started_after, steps_of, faults_of};
+ghost use Rattle.wiring.specs.Step.{said, line_says};
+ghost use Rattle.wiring.specs.List.{is_board, at_line, steps_in, faults_in, started_after, steps_of, faults_of, line_fault_text};
 
 use crate::fault::Fault;
 use crate::step::{Step, read_step};
+use line_words::fault::WordFault;
 use std::alloc::{AllocError, Global};
+use std::fmt;
 use text::lines::Lines;
 
 /// A faulty line, counted from 1, and why.
@@ -13,6 +15,14 @@ use text::lines::Lines;
 pub struct LineFault {
     pub line: usize,
     pub fault: Fault,
+}
+
+impl fmt::Display for LineFault {
+    ghost output = { λ wrong. Some (line_fault_text wrong) };
+
+    fn fmt<W: fmt::Write>(&self, f: &mut fmt::Formatter<W>) -> fmt::Result {
+        write!(f, "line {}: {}", self.line, self.fault)
+    }
 }
 
 /// A list that was read whole. Where it has faults, nothing of it is to be run.
@@ -32,50 +42,54 @@ fn has_board(started: bool, step: &Step) -> bool
     }
 }
 
-fn add_step(list: &mut WiringList, step: Step) -> Result<(), AllocError>
-    ensures { IfOk result (λ _.
-        (map said list.new.steps.items ≡ map said list.old.steps.items ++ said step ∷ [])
-        × (list.new.faults.items ≡ list.old.faults.items)) }
-{
-    list.steps.push(step)?;
-    Ok(())
-}
-
-fn add_fault(list: &mut WiringList, line: usize, fault: Fault) -> Result<(), AllocError>
-    ensures { IfOk result (λ _.
-        (map said list.new.steps.items ≡ map said list.old.steps.items)
-        × (list.new.faults.items ≡ list.old.faults.items ++ at_line line fault ∷ [])) }
-{
-    list.faults.push(LineFault { line, fault })?;
-    Ok(())
-}
-
-/// Adds what one line says, and answers whether a board may stand before the next one.
-fn add_line(
-    list: &mut WiringList,
-    line: usize,
+/// A list as far as its lines were read.
+#[derive(Drop)]
+struct Reading {
+    list: WiringList,
+    // Whether a board may stand before the next line.
     started: bool,
-    answer: Result<Option<Step>, Fault>,
-) -> Result<bool, AllocError>
-    ensures { IfOk result (λ b.
-        (b ≡ started_after started (answer_said answer))
-        × (map said list.new.steps.items ≡ map said list.old.steps.items ++ steps_in (answer_said answer))
-        × (list.new.faults.items ≡ list.old.faults.items ++ faults_in line started (answer_said answer))) }
-{
-    match answer {
-        Ok(None) => Ok(started),
-        Ok(Some(step)) => {
-            let begun = has_board(started, &step);
-            add_step(list, step)?;
-            if begun {
-                return Ok(true);
-            }
-            add_fault(list, line, Fault::NoBoard)?;
-            Ok(false)
+}
+
+impl Reading {
+    fn add_step(&mut self, line: usize, step: Step) -> Result<(), AllocError>
+        ensures { OnOk result (
+            (self.new.started ≡ (self.old.started || is_board (said step)))
+            × (map said self.new.list.steps.items ≡ map said self.old.list.steps.items ++ said step ∷ [])
+            × (self.new.list.faults.items ≡ self.old.list.faults.items ++ faults_in line self.old.started (Ok (Some (said step))))) }
+    {
+        self.started = has_board(self.started, &step);
+        self.list.steps.push(step)?;
+        if !self.started {
+            self.add_fault(line, Fault::NoBoard)?;
         }
-        Err(fault) => {
-            add_fault(list, line, fault)?;
-            Ok(true)
+        Ok(())
+    }
+
+    fn add_fault(&mut self, line: usize, fault: Fault) -> Result<(), AllocError>
+        ensures { OnOk result (
+            (self.new.started ≡ self.old.started)
+            × (self.new.list.steps ≡ self.old.list.steps)
+            × (self.new.list.faults.items ≡ self.old.list.faults.items ++ at_line line fault ∷ [])) }
+    {
+        self.list.faults.push(LineFault { line, fault })?;
+        Ok(())
+    }
+
+    /// Adds what one line says.
+    fn add_line(&mut self, heap: Global, number: usize, line: &[u8]) -> Result<(), AllocError>
+        ensures { OnOk result (
+            (self.new.started ≡ started_after self.old.started (line_says line.now))
+            × (map said self.new.list.steps.items ≡ map said self.old.list.steps.items ++ steps_in (line_says line.now))
+            × (self.new.list.faults.items ≡ self.old.list.faults.items ++ faults_in number self.old.started (line_says line.now))) }
+    {
+        match read_step(heap, line) {
+            Ok(None) => Ok(()),
+            Ok(Some(step)) => self.add_step(number, step),
+            Err(WordFault::OutOfMemory) => Err(AllocError),
+            Err(fault) => {
+                self.started = true;
+                self.add_fault(number, Fault::Word(fault))
+            }
         }
     }
 }
@@ -86,20 +100,21 @@ pub fn read_list(heap: Global, text: &[u8]) -> Result<WiringList, AllocError>
         (map said l.steps.items ≡ steps_of (lines text.now))
         × (l.faults.items ≡ faults_of 1 false (lines text.now))) }
 {
-    let mut list = WiringList {
-        steps: Vec::new(heap),
-        faults: Vec::new(heap),
+    let mut reading = Reading {
+        list: WiringList {
+            steps: Vec::new(heap),
+            faults: Vec::new(heap),
+        },
+        started: false,
     };
-    let mut started = false;
+    // Counted by hand: a list without a board has its fault at the line after the last.
     let mut number = 1;
-    let mut lines = Lines::of(text);
-    while let Some(line) = lines.next() {
-        let answer = read_step(heap, line)?;
-        started = add_line(&mut list, number, started, answer)?;
+    for line in Lines::of(text) {
+        reading.add_line(heap, number, line)?;
         number += 1;
     }
-    if !started {
-        add_fault(&mut list, number, Fault::NoBoard)?;
+    if !reading.started {
+        reading.add_fault(number, Fault::NoBoard)?;
     }
-    Ok(list)
+    Ok(reading.list)
 }

@@ -1,26 +1,18 @@
 -- What a board answers, as text. Assumes nothing.
-use Rattle.std.specs.Prelude.{ℕ, List, ◌++◌, Ok, Err, vec_items, codes, decimal, Result, slice_index_or}
+use Rattle.std.specs.Prelude.{ℕ, List, ◌++◌, vec_items, codes, decimal, slice_index_or}
 use Rattle.std.specs.List.{range_with_len, flat_map}
 use Rattle.board.specs.Held.{Held, drive_answer, tick_answer, if_driven, if_told}
-use Rattle.board.specs.Refusals.{cause_number, layer_number}
 use Rattle.board.specs.Status.{door_status_name, lock_status_name, output_name}
 use Rattle.board.specs.declared.status.DoorStatus.TheVariants.{Closed}
 use Rattle.board.specs.declared.status.LockStatus.TheVariants.{Locked}
 use Rattle.board.specs.declared.status.Output.{Output}
 use Rattle.board.specs.declared.status.Output.TheVariants as output
-use Rattle.board.specs.declared.refusal.Refusal.{Refusal}
+use Rattle.outcome.specs.Outcome.{outcome_text}
 use Rattle.wiring.specs.declared.step.Call.{Call}
 use Rattle.wiring.specs.declared.step.Call.TheVariants as call
 
-abbrev pub done_text : Result Unit Refusal → List ℕ
-done_text (Ok u) = codes "ok"
-done_text (Err r) = codes "refused " ++ (decimal (cause_number r.cause) ++ (codes " layer " ++ (decimal (layer_number r.layer) ++ (codes " place " ++ decimal r.place))))
-
-abbrev pub sizes_text : ℕ → ℕ → List ℕ
-sizes_text n w = codes "board doors=" ++ (decimal n ++ (codes " width=" ++ decimal w))
-
 abbrev pub made_text : Held → List ℕ
-made_text h = sizes_text h.doors h.width
+made_text h = codes "board doors=" ++ (decimal h.doors ++ (codes " width=" ++ decimal h.width))
 
 -- one door: its number, output, contact and reading
 abbrev pub door_text : Held → ℕ → List ℕ
@@ -34,8 +26,8 @@ abbrev pub asked_text : Held → List ℕ
 asked_text h = flat_map (door_text h) (range_with_len 0 h.doors) ++ sounder_text h
 
 abbrev pub call_text : Held → Call → List ℕ
-call_text h (call.Drive d) = done_text (drive_answer h d.output)
-call_text h (call.Tick v) = done_text (tick_answer h (vec_items v))
+call_text h (call.Drive d) = outcome_text (drive_answer h d.output)
+call_text h (call.Tick v) = outcome_text (tick_answer h (vec_items v))
 call_text h call.Ask = asked_text h
 
 -- what the board holds after a call

@@ -3,6 +3,7 @@
 
 #[cfg(test)]
 mod tests {
+    use line_words::fault::WordFault;
     use std::alloc::Global;
     use std::process::Abort;
     use std::test::Fail;
@@ -28,26 +29,26 @@ mod tests {
     #[test]
     fn a_line_that_is_no_call_is_named(rt: HostRuntime) -> Result<(), Fail> {
         for (text, line, fault) in [
-            ("bord plain 1", 1usize, Fault::UnknownWord),
-            ("board plane 1", 1, Fault::UnknownWord),
-            ("board steady 2 steady 2 plain 1", 1, Fault::UnknownWord),
-            ("board plain 1\ndrive 0 open", 2, Fault::UnknownWord),
-            ("board", 1, Fault::MissingWord),
-            ("board plain # 1", 1, Fault::MissingWord),
-            ("board steady 2 loop", 1, Fault::MissingWord),
-            ("board plain 1\n\n# door 0\n tick", 4, Fault::MissingWord),
-            ("board plain 1 1", 1, Fault::ExtraWord),
-            ("board plain 1\nask all\n", 2, Fault::ExtraWord),
-            ("board plain 1\ntick 00 00\n", 2, Fault::ExtraWord),
-            ("board plain one", 1, Fault::NotANumber),
-            ("board plain 1\ndrive held 0", 2, Fault::NotANumber),
-            ("board plain +1", 1, Fault::NotANumber),
-            ("board plain 18446744073709551616", 1, Fault::NumberTooLarge),
-            ("board steady 256 plain 1", 1, Fault::NumberTooLarge),
-            ("board plain 1\ntick 0g", 2, Fault::NotHex),
-            ("board plain 1\ntick 012", 2, Fault::OddHex),
+            ("bord plain 1", 1usize, WordFault::Unknown),
+            ("board plane 1", 1, WordFault::Unknown),
+            ("board steady 2 steady 2 plain 1", 1, WordFault::Unknown),
+            ("board plain 1\ndrive 0 open", 2, WordFault::Unknown),
+            ("board", 1, WordFault::Missing),
+            ("board plain # 1", 1, WordFault::Missing),
+            ("board steady 2 loop", 1, WordFault::Missing),
+            ("board plain 1\n\n# door 0\n tick", 4, WordFault::Missing),
+            ("board plain 1 1", 1, WordFault::Extra),
+            ("board plain 1\nask all\n", 2, WordFault::Extra),
+            ("board plain 1\ntick 00 00\n", 2, WordFault::Extra),
+            ("board plain one", 1, WordFault::NotANumber),
+            ("board plain 1\ndrive held 0", 2, WordFault::NotANumber),
+            ("board plain +1", 1, WordFault::NotANumber),
+            ("board plain 18446744073709551616", 1, WordFault::TooLarge),
+            ("board steady 256 plain 1", 1, WordFault::TooLarge),
+            ("board plain 1\ntick 0g", 2, WordFault::NotHex),
+            ("board plain 1\ntick 012", 2, WordFault::OddHex),
         ] {
-            faults_at(&rt, rt.alloc(), text, line, fault)?;
+            faults_at(&rt, rt.alloc(), text, line, Fault::Word(fault))?;
         }
         Ok(())
     }

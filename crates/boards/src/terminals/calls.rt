@@ -1,8 +1,8 @@
 ghost use Rattle.std.specs.Prelude.{◌≡◌, ◌+◌, ◌<◌, ◌≤◌, slice_set};
 ghost use Rattle.board.specs.Held.{with_output, if_driven, output_answer, contact_answer, reading_answer, drive_answer};
-ghost use Rattle.boards.specs.Terminals.{terminals, fresh};
+ghost use Rattle.boards.specs.Terminals.{terminals, fresh, input_answer};
 
-use crate::terminals::Terminals;
+use crate::terminals::{Input, Terminals};
 use board::refusal::Refusal;
 use board::status::{DoorStatus, LockStatus, Output};
 
@@ -18,8 +18,10 @@ impl Terminals {
             doors,
             width,
             outputs: [Output::Held; 65],
-            contacts: [DoorStatus::Unknown; 64],
-            readings: [LockStatus::Unknown; 64],
+            inputs: [Input {
+                contact: DoorStatus::Unknown,
+                reading: LockStatus::Unknown,
+            }; 64],
         }
     }
 
@@ -35,6 +37,16 @@ impl Terminals {
         self.width
     }
 
+    /// The input of a door, if there is that door.
+    fn input(&self, door: usize) -> Result<Input, Refusal>
+        ensures { result ≡ input_answer self.now door }
+    {
+        if door >= self.doors {
+            return Err(Refusal::no_such_output(door));
+        }
+        Ok(self.inputs[door])
+    }
+
     pub(crate) fn output(&self, output: usize) -> Result<Output, Refusal>
         ensures { result ≡ output_answer (terminals self.now) output }
     {
@@ -47,19 +59,13 @@ impl Terminals {
     pub(crate) fn contact(&self, door: usize) -> Result<DoorStatus, Refusal>
         ensures { result ≡ contact_answer (terminals self.now) door }
     {
-        if door >= self.doors {
-            return Err(Refusal::no_such_output(door));
-        }
-        Ok(self.contacts[door])
+        Ok(self.input(door)?.contact)
     }
 
     pub(crate) fn reading(&self, door: usize) -> Result<LockStatus, Refusal>
         ensures { result ≡ reading_answer (terminals self.now) door }
     {
-        if door >= self.doors {
-            return Err(Refusal::no_such_output(door));
-        }
-        Ok(self.readings[door])
+        Ok(self.input(door)?.reading)
     }
 
     pub(crate) fn drive(&mut self, output: usize, to: Output) -> Result<(), Refusal>
@@ -76,15 +82,13 @@ impl Terminals {
     }
 
     /// What one door's contact and lock monitor now say.
-    pub(crate) fn set_inputs(&mut self, door: usize, contact: DoorStatus, reading: LockStatus)
+    pub(crate) fn set_input(&mut self, door: usize, input: Input)
         requires { door < self.old.doors }
         ensures doors { self.new.doors ≡ self.old.doors }
         ensures width { self.new.width ≡ self.old.width }
         ensures outputs { self.new.outputs ≡ self.old.outputs }
-        ensures contacts { self.new.contacts ≡ slice_set self.old.contacts door contact }
-        ensures readings { self.new.readings ≡ slice_set self.old.readings door reading }
+        ensures inputs { self.new.inputs ≡ slice_set self.old.inputs door input }
     {
-        self.contacts[door] = contact;
-        self.readings[door] = reading;
+        self.inputs[door] = input;
     }
 }

@@ -8,22 +8,17 @@ use crate::simulated::Simulated;
 use board::refusal::Cause;
 use events::event::Transition;
 use slots::priority::slot_of;
-use slots::value::DoorValue;
+use slots::value::{DoorValue, value_of};
 
-/// NULL, or the value with that number.
-fn value_of(number: Option<u64>) -> Result<Option<DoorValue>, Cause>
+// The conversion at door values: the contract of the generic one is a relation, and this one an equation.
+fn door_value_of(number: Option<u64>) -> Result<Option<DoorValue>, Cause>
     ensures { result ≡ value_answer number }
 {
-    let Some(n) = number else {
-        return Ok(None);
-    };
-    match DoorValue::of_number(n) {
-        Some(value) => Ok(Some(value)),
-        None => Err(Cause::ValueOutOfRange),
-    }
+    value_of(number)
 }
 
 /// Whether a number takes a door out of service.
+// By hand, since no impl of std takes 0 and 1 to a bool.
 fn out_of(number: u64) -> Result<bool, Cause>
     ensures { result ≡ out_answer number }
 {
@@ -38,7 +33,7 @@ fn command_row(row: Row, priority: u64, value: Option<u64>) -> Result<Row, Cause
     ensures { result ≡ command_answer row priority value }
 {
     let place = slot_of(priority)?;
-    let known = value_of(value)?;
+    let known = door_value_of(value)?;
     let commanded = row.commanded.written(&row.settings, place, known);
     Ok(Row { commanded, ..row }.settled(row.sensed.alarm_state))
 }
@@ -88,14 +83,13 @@ fn service_row(row: Row, number: u64) -> Result<Row, Cause>
 fn acknowledge_row(row: Row, number: u64) -> Result<Row, Cause>
     ensures { result ≡ acknowledge_answer row number }
 {
-    let Some(transition) = Transition::of_number(number) else {
-        return Err(Cause::ValueOutOfRange);
-    };
+    let transition = Transition::try_from(number)?;
     let events = row.events.acknowledged(transition);
     Ok(Row { events, ..row }.settled(row.sensed.alarm_state))
 }
 
 impl Door {
+    // A method and no `TryFrom`: an error type of its own would say no more than None.
     /// The door of a row, unless the row holds what no door may hold.
     pub fn from_row(row: Row) -> Option<Door>
         ensures { MatchOption result (legal row ≡ false) (λ d. d.row ≡ row) }
@@ -114,6 +108,7 @@ impl Door {
     }
 
     /// Writes a value, or NULL, at a priority.
+    #[tactic(auto, using(crate::proofs::Legal::legal_command))]
     pub fn command(self, priority: u64, value: Option<u64>) -> Result<Door, Cause>
         ensures { row_of result ≡ command_answer self.row priority value }
     {
@@ -122,6 +117,7 @@ impl Door {
     }
 
     /// Sets an item.
+    #[tactic(auto, using(crate::proofs::Legal::legal_set))]
     pub fn set(self, item: u64, number: u64) -> Result<Door, Cause>
         ensures { row_of result ≡ set_row_answer self.row item number }
     {
@@ -130,6 +126,7 @@ impl Door {
     }
 
     /// Writes what is sensed, as if the hardware had said it; only out of service.
+    #[tactic(auto, using(crate::proofs::Legal::legal_simulate))]
     pub fn simulate(self, item: u64, number: u64) -> Result<Door, Cause>
         ensures { row_of result ≡ simulate_answer self.row item number }
     {
@@ -138,6 +135,7 @@ impl Door {
     }
 
     /// Takes the door out of service (1) or into it (0).
+    #[tactic(auto, using(crate::proofs::Legal::legal_service))]
     pub fn service(self, number: u64) -> Result<Door, Cause>
         ensures { row_of result ≡ service_answer self.row number }
     {
@@ -146,6 +144,7 @@ impl Door {
     }
 
     /// Acknowledges the transition with that number.
+    #[tactic(auto, using(crate::proofs::Legal::legal_acknowledge))]
     pub fn acknowledge(self, number: u64) -> Result<Door, Cause>
         ensures { row_of result ≡ acknowledge_answer self.row number }
     {

@@ -66,6 +66,7 @@ fn next_event(row: &Row) -> EventState
 
 impl Door {
     /// One tick of a tenth, with what the board now says of the door; `tenth` is the tenth that the tick leads to.
+    #[tactic(auto, using(crate::proofs::Legal::legal_ticked))]
     pub fn tick(self, contact: DoorStatus, reading: LockStatus, tenth: u32) -> Result<Ticked, Cause>
         ensures { ticked_of result ≡ tick_answer self.row contact reading tenth }
     {

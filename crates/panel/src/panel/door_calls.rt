@@ -1,9 +1,12 @@
-ghost use Rattle.std.specs.Prelude.{◌≡◌, ◌<◌, true, nat_lt};
+ghost use Rattle.std.specs.Prelude.{◌≡◌, ◌<◌, Result, true, nat_lt};
+ghost use Rattle.board.specs.declared.refusal.Cause.{Cause};
+ghost use Rattle.door.specs.declared.row.Row.{Row};
 ghost use Rattle.door.specs.Calls.{row_of};
 ghost use Rattle.history.specs.Views.{row_at, with_row, drives_door};
 ghost use Rattle.history.specs.DoorCalls.{refused_at, outcome, stored, stored_memory, call_answer, call_after, call_memory};
 ghost use Rattle.history.specs.DoorCalls.{commanded, set_to, simulated, serviced, acknowledged};
 ghost use Rattle.history.specs.Kept.{kept, MadeKept};
+ghost use Rattle.panel.specs.Calls.{Makes, LeavesTenths};
 ghost use Rattle.panel.specs.Look.{view};
 
 use crate::panel::Panel;
@@ -72,20 +75,29 @@ impl<B: Board> Panel<B> {
         ensures after { view B.held B.memory self.new ≡ stored (view B.held B.memory self.old) door (row_of made) }
         ensures memory { B.memory self.new.board ≡ stored_memory B.driven (B.memory self.old.board) door (row_of made) }
     {
-        match made {
-            Ok(changed) => {
-                self.put(door, changed.into_row());
-                Ok(())
-            }
-            Err(cause) => Err(refused(door, cause)),
-        }
+        let changed = made.map_err(|cause| refused(door, cause))?;
+        self.put(door, changed.into_row());
+        Ok(())
     }
 
-    fn command_at(&self, door: usize, priority: u64, value: Option<u64>) -> Result<Door, Cause>
-        requires { door < (B.held (B.memory self.now.board)).doors }
-        ensures { row_of result ≡ commanded (view B.held B.memory self.now) door priority value }
+    /// A call on a door: what it makes of the door is stored, or it is refused with its cause. A door that there is not is
+    /// refused first.
+    fn call_door<F: FnOnce(Door) -> Result<Door, Cause>>(
+        &mut self,
+        door: usize,
+        call: F,
+    ) -> Result<(), Refusal>
+        requires callable { F.IsAlwaysCallable call }
+        requires leaves { LeavesTenths F.post call }
+        ensures value { (f : Row → Result Row Cause) → Makes F.post call f → result ≡ call_answer (view B.held B.memory self.old) door (f (row_at (view B.held B.memory self.old) door)) }
+        ensures after { (f : Row → Result Row Cause) → Makes F.post call f → view B.held B.memory self.new ≡ call_after (view B.held B.memory self.old) door (f (row_at (view B.held B.memory self.old) door)) }
+        ensures memory { (f : Row → Result Row Cause) → Makes F.post call f → B.memory self.new.board ≡ call_memory B.driven (view B.held B.memory self.old) door (f (row_at (view B.held B.memory self.old) door)) (B.memory self.old.board) }
     {
-        self.door_at(door).command(priority, value)
+        if !self.has_door(door) {
+            return Err(refused(door, Cause::NoSuchDoor));
+        }
+        let made = call(self.door_at(door));
+        self.finish(door, made)
     }
 
     /// Writes a value, or NULL, at a priority of a door.
@@ -94,18 +106,7 @@ impl<B: Board> Panel<B> {
         ensures after { view B.held B.memory self.new ≡ call_after (view B.held B.memory self.old) door (commanded (view B.held B.memory self.old) door priority value) }
         ensures memory { B.memory self.new.board ≡ call_memory B.driven (view B.held B.memory self.old) door (commanded (view B.held B.memory self.old) door priority value) (B.memory self.old.board) }
     {
-        if !self.has_door(door) {
-            return Err(refused(door, Cause::NoSuchDoor));
-        }
-        let made = self.command_at(door, priority, value);
-        self.finish(door, made)
-    }
-
-    fn set_at(&self, door: usize, item: u64, number: u64) -> Result<Door, Cause>
-        requires { door < (B.held (B.memory self.now.board)).doors }
-        ensures { row_of result ≡ set_to (view B.held B.memory self.now) door item number }
-    {
-        self.door_at(door).set(item, number)
+        self.call_door(door, |d| d.command(priority, value))
     }
 
     /// Sets an item of a door.
@@ -114,18 +115,7 @@ impl<B: Board> Panel<B> {
         ensures after { view B.held B.memory self.new ≡ call_after (view B.held B.memory self.old) door (set_to (view B.held B.memory self.old) door item number) }
         ensures memory { B.memory self.new.board ≡ call_memory B.driven (view B.held B.memory self.old) door (set_to (view B.held B.memory self.old) door item number) (B.memory self.old.board) }
     {
-        if !self.has_door(door) {
-            return Err(refused(door, Cause::NoSuchDoor));
-        }
-        let made = self.set_at(door, item, number);
-        self.finish(door, made)
-    }
-
-    fn simulate_at(&self, door: usize, item: u64, number: u64) -> Result<Door, Cause>
-        requires { door < (B.held (B.memory self.now.board)).doors }
-        ensures { row_of result ≡ simulated (view B.held B.memory self.now) door item number }
-    {
-        self.door_at(door).simulate(item, number)
+        self.call_door(door, |d| d.set(item, number))
     }
 
     /// Writes what is sensed of a door that is out of service.
@@ -134,18 +124,7 @@ impl<B: Board> Panel<B> {
         ensures after { view B.held B.memory self.new ≡ call_after (view B.held B.memory self.old) door (simulated (view B.held B.memory self.old) door item number) }
         ensures memory { B.memory self.new.board ≡ call_memory B.driven (view B.held B.memory self.old) door (simulated (view B.held B.memory self.old) door item number) (B.memory self.old.board) }
     {
-        if !self.has_door(door) {
-            return Err(refused(door, Cause::NoSuchDoor));
-        }
-        let made = self.simulate_at(door, item, number);
-        self.finish(door, made)
-    }
-
-    fn service_at(&self, door: usize, number: u64) -> Result<Door, Cause>
-        requires { door < (B.held (B.memory self.now.board)).doors }
-        ensures { row_of result ≡ serviced (view B.held B.memory self.now) door number }
-    {
-        self.door_at(door).service(number)
+        self.call_door(door, |d| d.simulate(item, number))
     }
 
     /// Takes a door out of service (1) or into it (0).
@@ -154,18 +133,7 @@ impl<B: Board> Panel<B> {
         ensures after { view B.held B.memory self.new ≡ call_after (view B.held B.memory self.old) door (serviced (view B.held B.memory self.old) door number) }
         ensures memory { B.memory self.new.board ≡ call_memory B.driven (view B.held B.memory self.old) door (serviced (view B.held B.memory self.old) door number) (B.memory self.old.board) }
     {
-        if !self.has_door(door) {
-            return Err(refused(door, Cause::NoSuchDoor));
-        }
-        let made = self.service_at(door, number);
-        self.finish(door, made)
-    }
-
-    fn acknowledge_at(&self, door: usize, number: u64) -> Result<Door, Cause>
-        requires { door < (B.held (B.memory self.now.board)).doors }
-        ensures { row_of result ≡ acknowledged (view B.held B.memory self.now) door number }
-    {
-        self.door_at(door).acknowledge(number)
+        self.call_door(door, |d| d.service(number))
     }
 
     /// Acknowledges a transition of a door.
@@ -174,10 +142,6 @@ impl<B: Board> Panel<B> {
         ensures after { view B.held B.memory self.new ≡ call_after (view B.held B.memory self.old) door (acknowledged (view B.held B.memory self.old) door number) }
         ensures memory { B.memory self.new.board ≡ call_memory B.driven (view B.held B.memory self.old) door (acknowledged (view B.held B.memory self.old) door number) (B.memory self.old.board) }
     {
-        if !self.has_door(door) {
-            return Err(refused(door, Cause::NoSuchDoor));
-        }
-        let made = self.acknowledge_at(door, number);
-        self.finish(door, made)
+        self.call_door(door, |d| d.acknowledge(number))
     }
 }

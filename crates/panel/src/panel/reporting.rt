@@ -11,16 +11,12 @@ use door::shown::ReportRow;
 use report::write::write_report;
 
 impl<B: Board> Panel<B> {
-    /// What a report tells of each door now.
+    /// What a report tells of each door now, and behind the last door of the rows that no door has.
     fn rows_now(&self) -> [ReportRow; 64]
         ensures value { take (B.held (B.memory self.now.board)).doors result ≡ rows_now (view B.held B.memory self.now) }
         ensures len { length result ≡ 64 }
     {
-        let mut rows = [Row::at_making().report_row(); 64];
-        for door in 0..self.board.doors() {
-            rows[door] = self.rows[door].report_row();
-        }
-        rows
+        self.rows.map(|row| row.report_row())
     }
 
     /// Writes a report of what has changed into the buffer, and remembers the rows as reported; a refused one is as if it had not
@@ -33,12 +29,8 @@ impl<B: Board> Panel<B> {
     {
         let rows = self.rows_now();
         let doors = self.board.doors();
-        match write_report(&self.reported[..doors], &rows[..doors], buffer) {
-            Ok(count) => {
-                self.reported = rows;
-                Ok(count)
-            }
-            Err(refusal) => Err(refusal),
-        }
+        let count = write_report(&self.reported[..doors], &rows[..doors], buffer)?;
+        self.reported = rows;
+        Ok(count)
     }
 }

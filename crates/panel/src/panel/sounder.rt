@@ -42,12 +42,12 @@ impl<B: Board> Panel<B> {
         ensures after { view B.held B.memory self.new ≡ sounder_after (view B.held B.memory self.old) (written (view B.held B.memory self.old) priority value) }
         ensures memory { B.memory self.new.board ≡ sounder_memory B.driven (view B.held B.memory self.old) (written (view B.held B.memory self.old) priority value) (B.memory self.old.board) }
     {
-        match self.sounder.command(priority, value) {
-            Ok(sounder) => {
-                self.put_sounder(sounder);
-                Ok(())
-            }
-            Err(cause) => Err(refused(self.board.doors(), cause)),
-        }
+        let place = self.board.doors();
+        let sounder = self
+            .sounder
+            .command(priority, value)
+            .map_err(|cause| refused(place, cause))?;
+        self.put_sounder(sounder);
+        Ok(())
     }
 }

@@ -63,6 +63,7 @@ impl<B: Board> Panel<B> {
         ensures after { view B.held B.memory self.new ≡ doors_stepped (doors_of (view B.held B.memory self.old)) (view B.held B.memory self.old) }
         ensures memory { B.memory self.new.board ≡ doors_driven B.driven (doors_of (view B.held B.memory self.old)) (view B.held B.memory self.old) (B.memory self.old.board) }
     {
+        // By number, since the board is asked and driven by number.
         for door in 0..self.board.doors() {
             self.step_door(door);
         }
@@ -74,12 +75,8 @@ impl<B: Board> Panel<B> {
         ensures after { view B.held B.memory self.new ≡ tick_after (view B.held B.memory self.old) (B.held (B.told (B.memory self.old.board) bytes.now)).inputs bytes.now }
         ensures memory { B.memory self.new.board ≡ tick_memory B.driven (view B.held B.memory self.old) (B.held (B.told (B.memory self.old.board) bytes.now)).inputs bytes.now (B.told (B.memory self.old.board) bytes.now) (B.memory self.old.board) }
     {
-        match self.begin(bytes) {
-            Ok(()) => {
-                self.step_doors();
-                Ok(())
-            }
-            Err(refusal) => Err(refusal),
-        }
+        self.begin(bytes)?;
+        self.step_doors();
+        Ok(())
     }
 }

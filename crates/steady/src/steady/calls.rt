@@ -105,6 +105,7 @@ impl<B: Board> Board for Steady<B> {
 
     fn tick(&mut self, bytes: &[u8]) -> Result<(), Refusal> {
         self.below.tick(bytes)?;
+        // By number, since the board below is asked by number.
         for door in 0..self.doors() {
             self.follow(door);
         }

@@ -1,32 +1,36 @@
-use Rattle.std.proofs.Common.{◌≡◌, ◌+◌, ◌≤◌, ◌++◌, length, drop, sym, ap, ◌∙◌, arith, length-drop, length-take, rules}
-use Rattle.report.specs.Writing.{report_below, door_fields, door_size, bytes_of_door, doors_in}
+use Rattle.std.proofs.Common.{◌≡◌, ◌+◌, ◌≤◌, ◌∷◌, [], ◌++◌, length, drop, sym, ap, ◌∙◌, arith, length-drop, length-take, length-append, rules}
+use Rattle.std.proofs.lemmas.Iterator.Consumers.{YieldsList-turn, YieldsList-end}
+use Rattle.report.specs.Fields.{fields_between}
+use Rattle.report.specs.Writing.{report_below, door_size, door_bytes, bytes_of_door, doors_in}
 use Rattle.report.proofs.Grow.{grow, part}
-use Rattle.report.proofs.Records.{below_none, below_more, length_more, fits}
+use Rattle.report.proofs.Records.{below_none, below_more, length_door, length_told, is_told, room_told, yields_told}
 use Rattle.report.proofs.write.write_report.Goals as goal
 
 pub loop-door-init : goal.loop-door-init
 loop-door-init c =
     let none = below_none c.args.last.now c.args.rows.now in
-    (sym (ap (λ x. x ++ c.args.buffer.now) none), ap length none, omega arith)
+    record { written = record { long = ap length none; bytes = sym (ap (λ x. x ++ c.args.buffer.now) none) }; fits = omega arith }
 
 pub write_door-at-requires : goal.write_door-at-requires
 write_door-at-requires c =
     let last = c.args.last.now in
     let rows = c.args.rows.now in
-    let n : c.doors_in-doors.result ≡ doors_in last rows = c.doors_in-doors.ensures.value in
-    let whole : length (report_below last rows (doors_in last rows)) ≤ length c.args.buffer.now = omega arith in
-    let f = fits last rows c.loop-door.door (doors_in last rows) (length c.args.buffer.now) (omega arith) whole in
-    let at = c.loop-door.invariant.1 in
+    let n = length c.loop-door.yielded in
+    let road = yields_told last rows {s = c.into_iter-door-iterator.result} (cc) (cc) (cc) in
+    let turn = YieldsList-turn road c.loop-door.yielded _ c.loop-door.yielded_by _ c.next.new.self _ c.in-Some.is c.next.ensures.steps in
+    let room = room_told last rows n (length c.args.buffer.now) _ turn.0 turn.1 (omega arith) in
+    let long = c.loop-door.invariant.written.long in
     simp (length-take, length-drop) (omega arith)
 
 pub overflow_add-at : goal.overflow_add-at
 overflow_add-at c =
     let last = c.args.last.now in
     let rows = c.args.rows.now in
-    let n : c.doors_in-doors.result ≡ doors_in last rows = c.doors_in-doors.ensures.value in
-    let whole : length (report_below last rows (doors_in last rows)) ≤ length c.args.buffer.now = omega arith in
-    let room = fits last rows c.loop-door.door (doors_in last rows) (length c.args.buffer.now) (omega arith) whole in
-    let at = c.loop-door.invariant.1 in
+    let n = length c.loop-door.yielded in
+    let road = yields_told last rows {s = c.into_iter-door-iterator.result} (cc) (cc) (cc) in
+    let turn = YieldsList-turn road c.loop-door.yielded _ c.loop-door.yielded_by _ c.next.new.self _ c.in-Some.is c.next.ensures.steps in
+    let room = room_told last rows n (length c.args.buffer.now) _ turn.0 turn.1 (omega arith) in
+    let long = c.loop-door.invariant.written.long in
     let end : c.loop-door.at + c.write_door-at.result ≤ length c.args.buffer.now = omega arith in
     search rules
 
@@ -34,18 +38,30 @@ pub loop-door-preserved : goal.loop-door-preserved
 loop-door-preserved c =
     let last = c.args.last.now in
     let rows = c.args.rows.now in
-    let i = c.loop-door.door in
-    let at = c.loop-door.at in
-    let fs = bytes_of_door last rows i in
-    let w = door_size (door_fields last rows i) in
-    let v = c.loop-door.invariant in
-    let here : at ≤ length c.loop-door.buffer = omega arith in
-    let p = part c.loop-door.buffer c.write_door-at.new.rest fs at w here c.write_door-at.ensures.after in
-    let n : at + c.write_door-at.result ≡ at + w = omega arith in
-    let q = grow c.args.buffer.now (report_below last rows i) fs c.loop-door.buffer _ at (at + c.write_door-at.result) w v.1 n v.0 p in
-    let m = below_more last rows i in
-    let l = length_more last rows i in
-    let d : c.doors_in-doors.result ≡ doors_in last rows = c.doors_in-doors.ensures.value in
-    let whole : length (report_below last rows (doors_in last rows)) ≤ length c.args.buffer.now = omega arith in
-    let room = fits last rows i (doors_in last rows) (length c.args.buffer.now) (omega arith) whole in
-    (q ∙ ap (λ x. x ++ drop (at + c.write_door-at.result) c.args.buffer.now) (sym m), omega arith, omega arith)
+    let n = length c.loop-door.yielded in
+    let road = yields_told last rows {s = c.into_iter-door-iterator.result} (cc) (cc) (cc) in
+    let turn = YieldsList-turn road c.loop-door.yielded _ c.loop-door.yielded_by _ c.next.new.self _ c.in-Some.is c.next.ensures.steps in
+    let room = room_told last rows n (length c.args.buffer.now) _ turn.0 turn.1 (omega arith) in
+    let long = c.loop-door.invariant.written.long in
+    let told = is_told last rows n _ turn.0 turn.1 in
+    let fields = fields_between c.in-Some.last.now c.in-Some.row.now in
+    let w = door_size fields in
+    let bytes = door_bytes c.in-Some.door fields in
+    let p = part c.loop-door.buffer c.write_door-at.new.rest bytes c.loop-door.at w (omega arith) c.write_door-at.ensures.after in
+    let next : c.loop-door.at + c.write_door-at.result ≡ c.loop-door.at + w = omega arith in
+    let written = grow c.loop-door.invariant.written bytes (length_door c.in-Some.door fields) next p in
+    let here : bytes ≡ bytes_of_door last rows n = ap (λ d. door_bytes d fields) told.0 ∙ ap (door_bytes n) told.1 in
+    let more : report_below last rows n ++ bytes ≡ report_below last rows (length (c.loop-door.yielded ++ ((c.in-Some.door, (c.in-Some.last, c.in-Some.row)) ∷ []))) =
+    ap (λ x. report_below last rows n ++ x) here ∙ sym (below_more last rows n) ∙ ap (report_below last rows) (sym (length-append c.loop-door.yielded ((c.in-Some.door, (c.in-Some.last, c.in-Some.row)) ∷ []))) in
+    record { written = rw more at written; fits = omega arith }
+
+pub returns : goal.returns
+returns c =
+    let last = c.args.last.now in
+    let rows = c.args.rows.now in
+    let road = yields_told last rows {s = c.into_iter-door-iterator.result} (cc) (cc) (cc) in
+    let end = YieldsList-end road c.loop-door.yielded _ c.loop-door.yielded_by _ c.next.new.self c.in-None.is c.next.ensures.steps in
+    let n : length c.loop-door.yielded ≡ doors_in last rows = end.1 ∙ length_told last rows in
+    let long : length (report_below last rows (doors_in last rows)) ≡ c.loop-door.at = rw n at c.loop-door.invariant.written.long in
+    let bytes : c.loop-door.buffer ≡ report_below last rows (doors_in last rows) ++ drop c.loop-door.at c.args.buffer.now = rw n at c.loop-door.invariant.written.bytes in
+    record { value = search rules; after = search rules }

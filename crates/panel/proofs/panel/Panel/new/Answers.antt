@@ -1,7 +1,6 @@
 use Rattle.std.proofs.Common.{◌≡◌, ◌+◌, refl, ap, ◌∙◌, arith}
 use Rattle.board.specs.declared.status.Output.TheVariants.{Held}
 use Rattle.door.specs.Shown.{report_row}
-use Rattle.history.specs.Views.{all_driven}
 use Rattle.history.proofs.Making.{within, held_more, driven_more, made_view}
 use Rattle.history.proofs.Rows.{kept_fresh}
 use Rattle.panel.proofs.panel.Panel.new.Goals as goal
@@ -24,16 +23,12 @@ loop-output-preserved g c =
 pub invariant_of-result : goal.invariant_of-result
 invariant_of-result g c = record { table = refl; queue = refl; memo = refl; kept = kept_fresh c.args.tenth 64 c.at_making.result c.at_making.ensures; serials = omega arith }
 
-pub returns : goal.returns
-returns g c =
+pub returns-clause-value : goal.returns-clause-value
+returns-clause-value g c =
     let held = g.B.Board.held in
     let memory = g.B.Board.memory in
     let h = held (memory c.args.board) in
     let sound = g.met.B.Board.sound c.args.board in
     let all : c.loop-output.output ≡ h.doors + 1 = omega arith in
-    record {
-      value =
-          made_view h (held (memory c.loop-output.board)) c.loop-output.output c.args.number c.args.tenth c.at_making.result c.at_making-2.result c.none.result c.report_row.result
-          sound.few all c.loop-output.invariant.0 c.at_making.ensures c.at_making-2.ensures c.none.ensures (c.report_row.ensures ∙ ap report_row c.at_making-3.ensures);
-      memory = c.loop-output.invariant.1 ∙ ap (λ n. all_driven g.B.Board.driven n (memory c.args.board)) all;
-    }
+    made_view h (held (memory c.loop-output.board)) c.loop-output.output c.args.number c.args.tenth c.at_making.result c.at_making-2.result c.none.result c.report_row.result
+    sound.few all c.loop-output.invariant.0 c.at_making.ensures c.at_making-2.ensures c.none.ensures (c.report_row.ensures ∙ ap report_row c.at_making-3.ensures)

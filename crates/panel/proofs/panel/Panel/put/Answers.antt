@@ -14,8 +14,8 @@ invariant_of-self g c =
       serials = p.serials;
     }
 
-pub returns : goal.returns
-returns g c =
+pub returns-clause-after : goal.returns-clause-after
+returns-clause-after g c =
     let held = g.B.Board.held in
     let memory = g.B.Board.memory in
     let p = c.args.self.now in
@@ -23,7 +23,4 @@ returns g c =
     let within : i ≤ (held (memory p.board)).doors = omega arith in
     let m = c.drive_door.ensures in
     let h = ap held m ∙ held_driven held g.B.Board.driven (memory p.board) i c.args.row (g.met.B.Board.drives p.board i c.args.row.commanded.output within) in
-    record {
-      after = put_view (held (memory p.board)) (held (memory c.drive_door.new.board)) p.rows p.sounder p.waiting p.next_serial p.reported p.number p.tenth i c.args.row c.requires.0 h;
-      memory = m;
-    }
+    put_view (held (memory p.board)) (held (memory c.drive_door.new.board)) p.rows p.sounder p.waiting p.next_serial p.reported p.number p.tenth i c.args.row c.requires.0 h

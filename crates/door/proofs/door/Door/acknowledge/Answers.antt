@@ -1,5 +1,0 @@
-use Rattle.door.proofs.Legal.{legal_acknowledge}
-use Rattle.door.proofs.door.Door.acknowledge.Goals as goal
-
-pub invariant_of-result : goal.invariant_of-result
-invariant_of-result c = record { ok = legal_acknowledge c.args.self.row c.in_ok-row.row c.args.number c.args.self.ok c.in_ok-row.ensures }

@@ -1,5 +1,0 @@
-use Rattle.door.proofs.Legal.{legal_set}
-use Rattle.door.proofs.door.Door.set.Goals as goal
-
-pub invariant_of-result : goal.invariant_of-result
-invariant_of-result c = record { ok = legal_set c.args.self.row c.in_ok-row.row c.args.item c.args.number c.args.self.ok c.in_ok-row.ensures }

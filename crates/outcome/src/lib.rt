@@ -1,0 +1,4 @@
+//! What a call that answers nothing else came to, as text.
+#![tactic(auto)]
+
+pub mod outcome;
