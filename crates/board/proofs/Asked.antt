@@ -1,21 +1,15 @@
 -- What an accepted call on a board comes to. Assumes nothing.
-use Rattle.std.proofs.Common.{◌≡◌, ℕ, ◌<◌, ◌≤◌, Bool, true, false, cond, eqb, List, length, get_or, Ok, Err, refl, ◌∙◌, arith, lt-ltb, le-leb}
-use Rattle.std.proofs.lemmas.Bool.{cond-true}
-use Rattle.board.specs.Held.{Held, output_answer, contact_answer, reading_answer, tick_answer, if_driven, if_told}
+use Rattle.std.proofs.Common.{◌≡◌, ℕ, ◌<◌, Bool, true, false, cond, get_or, Ok, Err, lt-ltb}
+use Rattle.board.specs.Held.{Held, contact_answer, reading_answer}
 use Rattle.board.specs.declared.status.DoorStatus.{DoorStatus}
 use Rattle.board.specs.declared.status.DoorStatus.TheVariants.{Closed}
 use Rattle.board.specs.declared.status.LockStatus.{LockStatus}
 use Rattle.board.specs.declared.status.LockStatus.TheVariants.{Locked}
-use Rattle.board.specs.declared.status.Output.{Output}
-use Rattle.board.specs.declared.status.Output.TheVariants as output
 use Rattle.board.specs.declared.refusal.Refusal.{Refusal}
 
 ok_is : {X : Type 0} (b : Bool) (r : Refusal) (x y : X) → b ≡ true → cond b (Ok y) (Err r) ≡ Ok x → x ≡ y
 ok_is true r x y q e = cc
 ok_is false r x y q e = cc
-
-pub output_is : (h : Held) (i : ℕ) (x : Output) → i ≤ h.doors → output_answer h i ≡ Ok x → x ≡ get_or h.outputs i output.Held
-output_is h i x l e = ok_is _ _ x _ (le-leb i h.doors l) e
 
 pub contact_is : (h : Held) (i : ℕ) (x : DoorStatus) → i < h.doors → contact_answer h i ≡ Ok x → x ≡ get_or h.inputs.contacts i Closed
 contact_is h i x l e = ok_is _ _ x _ (lt-ltb i h.doors l) e

@@ -1,5 +1,5 @@
 -- Refusals: the number of each cause and layer, and the order in which causes go. Assumes nothing.
-use Rattle.std.specs.Prelude.{ℕ, suc, Bool, cond, List, [], ◌∷◌, ◌==◌, nat_lt}
+use Rattle.std.specs.Prelude.{ℕ, suc, Bool, cond, List, [], ◌∷◌, ◌++◌, ◌==◌, nat_lt, codes, decimal}
 use Rattle.board.specs.declared.refusal.Cause.{Cause}
 use Rattle.board.specs.declared.refusal.Cause.TheVariants.{NoSuchDoor, NoSuchPriority, ValueOutOfRange, NoSuchItem, WrongTickLength, RecordCut, BadRecord, SimulateInService, AlarmStateMasked, NoNoticeWaiting, SlipIsOut, NoSuchSlip, ReportTooLong, LastTenth}
 use Rattle.board.specs.declared.refusal.Layer.{Layer}
@@ -43,6 +43,13 @@ position c (x ∷ xs) = cond (same_cause c x) 0 (suc (position c xs))
 
 abbrev pub goes_before : Cause → Cause → Bool
 goes_before a b = nat_lt (position a cause_order) (position b cause_order)
+
+-- a refusal for cause e at layer l, with place p
+abbrev pub refusal_of : Layer → Cause → ℕ → Refusal
+refusal_of l e p = record { cause = e; layer = l; place = p }
+
+abbrev pub refusal_text : Refusal → List ℕ
+refusal_text r = codes "refused " ++ (decimal (cause_number r.cause) ++ (codes " layer " ++ (decimal (layer_number r.layer) ++ (codes " place " ++ decimal r.place))))
 
 -- no output, contact or reading i at a board
 abbrev pub no_such_output : ℕ → Refusal

@@ -1,9 +1,12 @@
-ghost use Rattle.std.specs.Prelude.{◌≡◌};
-ghost use Rattle.board.specs.Refusals.{cause_number, layer_number, goes_before};
+ghost use Rattle.std.specs.Prelude.{◌≡◌, Some};
+ghost use Rattle.board.specs.Refusals.{cause_number, layer_number, goes_before, refusal_of, refusal_text};
 ghost use Rattle.board.specs.Refusals.{no_such_output, wrong_tick_length};
 
+use std::fmt;
+
 /// Why a call is refused. The first seven are faults of the input, the others of the state at that moment.
-/// They stand in the order in which causes go, apart from their numbers: a later cause may stand in the middle.
+/// Causes are ordered by number, and that is the order in which they go: a later cause that is to stand in the middle will need an
+/// order of its own in `goes_before`, whose proof would fail without it.
 #[derive(Clone, Copy, PartialEq, Eq, PartialOrd, Ord, Debug)]
 pub enum Cause {
     NoSuchDoor = 1,
@@ -62,25 +65,39 @@ impl Layer {
 }
 
 impl Refusal {
+    /// A refusal for that cause at a layer, with its place.
+    pub fn of(layer: Layer, cause: Cause, place: usize) -> Refusal
+        ensures { result ≡ refusal_of layer cause place }
+    {
+        Refusal {
+            cause,
+            layer,
+            place,
+        }
+    }
+
     /// A board has no such output, contact or reading.
     pub fn no_such_output(output: usize) -> Refusal
         ensures { result ≡ no_such_output output }
     {
-        Refusal {
-            cause: Cause::NoSuchDoor,
-            layer: Layer::Board,
-            place: output,
-        }
+        Refusal::of(Layer::Board, Cause::NoSuchDoor, output)
     }
 
     /// A tick with this many bytes, which are not the board's width.
     pub fn wrong_tick_length(length: usize) -> Refusal
         ensures { result ≡ wrong_tick_length length }
     {
-        Refusal {
-            cause: Cause::WrongTickLength,
-            layer: Layer::Board,
-            place: length,
-        }
+        Refusal::of(Layer::Board, Cause::WrongTickLength, length)
+    }
+}
+
+impl fmt::Display for Refusal {
+    ghost output = { λ refusal. Some (refusal_text refusal) };
+
+    fn fmt<W: fmt::Write>(&self, f: &mut fmt::Formatter<W>) -> fmt::Result {
+        let number = self.cause.number();
+        let layer = self.layer.number();
+        let place = self.place;
+        write!(f, "refused {number} layer {layer} place {place}")
     }
 }

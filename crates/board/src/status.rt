@@ -37,6 +37,16 @@ impl DoorStatus {
     {
         self as u8
     }
+
+    pub fn name(self) -> &'static str
+        ensures { result.now ≡ door_status_name self }
+    {
+        match self {
+            DoorStatus::Closed => "CLOSED",
+            DoorStatus::Opened => "OPENED",
+            DoorStatus::Unknown => "UNKNOWN",
+        }
+    }
 }
 
 impl TryFrom<u64> for DoorStatus {
@@ -58,11 +68,7 @@ impl fmt::Display for DoorStatus {
     ghost output = { λ status. Some (door_status_name status) };
 
     fn fmt<W: fmt::Write>(&self, f: &mut fmt::Formatter<W>) -> fmt::Result {
-        f.write_str(match self {
-            DoorStatus::Closed => "CLOSED",
-            DoorStatus::Opened => "OPENED",
-            DoorStatus::Unknown => "UNKNOWN",
-        })
+        f.write_str(DoorStatus::name(*self))
     }
 }
 
@@ -71,6 +77,17 @@ impl LockStatus {
         ensures { result ≡ lock_status_number self }
     {
         self as u8
+    }
+
+    pub fn name(self) -> &'static str
+        ensures { result.now ≡ lock_status_name self }
+    {
+        match self {
+            LockStatus::Locked => "LOCKED",
+            LockStatus::Unlocked => "UNLOCKED",
+            LockStatus::Fault => "FAULT",
+            LockStatus::Unknown => "UNKNOWN",
+        }
     }
 }
 
@@ -94,12 +111,7 @@ impl fmt::Display for LockStatus {
     ghost output = { λ status. Some (lock_status_name status) };
 
     fn fmt<W: fmt::Write>(&self, f: &mut fmt::Formatter<W>) -> fmt::Result {
-        f.write_str(match self {
-            LockStatus::Locked => "LOCKED",
-            LockStatus::Unlocked => "UNLOCKED",
-            LockStatus::Fault => "FAULT",
-            LockStatus::Unknown => "UNKNOWN",
-        })
+        f.write_str(LockStatus::name(*self))
     }
 }
 
@@ -108,6 +120,15 @@ impl Output {
         ensures { result ≡ output_number self }
     {
         self as u8
+    }
+
+    pub fn name(self) -> &'static str
+        ensures { result.now ≡ output_name self }
+    {
+        match self {
+            Output::Held => "held",
+            Output::Released => "released",
+        }
     }
 }
 
@@ -129,9 +150,6 @@ impl fmt::Display for Output {
     ghost output = { λ output. Some (output_name output) };
 
     fn fmt<W: fmt::Write>(&self, f: &mut fmt::Formatter<W>) -> fmt::Result {
-        f.write_str(match self {
-            Output::Held => "held",
-            Output::Released => "released",
-        })
+        f.write_str(Output::name(*self))
     }
 }

@@ -24,12 +24,10 @@ pub struct Wanted {
 fn kind_of(word: &[u8]) -> Result<BoardKind, WordFault>
     ensures { result ≡ kind_said word.now }
 {
-    if spells(word, b"plain") {
-        Ok(BoardKind::Plain)
-    } else if spells(word, b"loop") {
-        Ok(BoardKind::Loop)
-    } else {
-        Err(WordFault::Unknown)
+    match word {
+        b"plain" => Ok(BoardKind::Plain),
+        b"loop" => Ok(BoardKind::Loop),
+        _ => Err(WordFault::Unknown),
     }
 }
 
@@ -63,7 +61,7 @@ pub fn read_wanted(words: &mut Words<'_>) -> Result<Wanted, WordFault>
 {
     let word = words.next().ok_or(WordFault::Missing)?;
     if spells(word, b"steady") {
-        // The count is a byte.
+        // The count is a byte: at most 255, so that `as` loses nothing.
         let count = read_limited(words, 255)? as u8;
         let kind = read_kind(words)?;
         return read_doors(words, Some(count), kind);

@@ -2,7 +2,7 @@
 #![tactic(auto)]
 
 pub mod byte_board;
-pub mod door_bytes;
+mod door_bytes;
 pub mod loop_board;
 pub mod making;
 pub mod plain_board;

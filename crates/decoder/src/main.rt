@@ -7,13 +7,11 @@ use decoding::line::read_report;
 use decoding::said::{record_text, row_text};
 use door::row::Row;
 use door::shown::ReportRow;
-use line_words::fault::WordFault;
+use line_words::fault::ReadFault;
 use mirror::apply::apply;
 use mirror::reader::Reader;
 use mirror::record::Record;
 use numeral::decimal::decimal;
-use outcome::outcome::outcome_text;
-use std::alloc::AllocError;
 use std::env;
 use std::io::Read;
 use text::lines::Lines;
@@ -26,34 +24,46 @@ fn rows_wanted(rt: &HostRuntime) -> anyhow::Result<usize> {
         .next()
         .ok_or_else(|| anyhow!("usage: decoder ROWS < REPORTS"))?;
     match decimal(word.as_bytes()) {
-        Ok(n) if n >= 1 && n <= 64 => Ok(n as usize),
+        Ok(n @ 1..=64) => Ok(n as usize),
         _ => Err(anyhow!("the number of rows is 1 to 64")),
     }
 }
 
-/// Prints each faulty line with its reason, and answers whether there was one.
-fn has_faults(rt: &HostRuntime, text: &[u8]) -> anyhow::Result<bool> {
+/// The bytes of a report, and its line, counted from 1.
+#[derive(Drop)]
+struct Report {
+    line: usize,
+    bytes: Vec<u8>,
+}
+
+/// The reports of all lines. Prints each faulty line with its reason, and fails if there is one.
+fn read_reports(rt: &HostRuntime, text: &[u8]) -> anyhow::Result<Vec<Report>> {
+    let mut reports = Vec::new(rt.alloc());
     let mut found = false;
     // A line has a byte at least.
-    for (number, line) in (1..=text.len()).zip(Lines::of(text)) {
-        match read_report(rt.alloc(), line) {
-            Ok(_) => {}
-            Err(WordFault::OutOfMemory) => return Err(AllocError.into()),
-            Err(fault) => {
-                eprintln!(rt; "line {number}: {fault}")?;
+    for (line, content) in (1..=text.len()).zip(Lines::of(text)) {
+        match read_report(rt.alloc(), content) {
+            Ok(Some(bytes)) => reports.push(Report { line, bytes })?,
+            Ok(None) => {}
+            // Want of memory is no fault of the line.
+            Err(ReadFault::OutOfMemory(error)) => return Err(error.into()),
+            Err(ReadFault::Word(fault)) => {
+                eprintln!(rt; "line {line}: {fault}")?;
                 found = true;
             }
         }
     }
-    Ok(found)
+    if found {
+        return Err(anyhow!("nothing was decoded"));
+    }
+    Ok(reports)
 }
 
 /// Prints what a record says, applies it, and prints a refusal, if it is refused.
 fn tell(rt: &HostRuntime, record: &Record, mirror: &mut [ReportRow]) -> anyhow::Result<()> {
     rt.println(record_text(rt.alloc(), record)?)?;
-    let outcome = apply(mirror, record);
-    if outcome.is_err() {
-        rt.println(outcome_text(rt.alloc(), outcome)?)?;
+    if let Err(refusal) = apply(mirror, record) {
+        println!(rt; "{refusal}")?;
     }
     Ok(())
 }
@@ -62,12 +72,13 @@ fn tell(rt: &HostRuntime, record: &Record, mirror: &mut [ReportRow]) -> anyhow::
 fn decode(rt: &HostRuntime, bytes: &[u8], mirror: &mut [ReportRow]) -> anyhow::Result<()> {
     let mut reader = Reader::new(bytes, 0, mirror.len());
     // A record has three bytes at least, so the end comes within as many turns as there are bytes and one.
+    // Counted, since a `while let` would need a proof that it ends.
     for _turn in 0..=bytes.len() {
         match reader.next() {
             Ok(None) => break,
             Ok(Some(record)) => tell(rt, &record, mirror)?,
             Err(refusal) => {
-                rt.println(outcome_text(rt.alloc(), Err(refusal))?)?;
+                println!(rt; "{refusal}")?;
                 break;
             }
         }
@@ -82,19 +93,15 @@ fn print_mirror(rt: &HostRuntime, mirror: &[ReportRow]) -> anyhow::Result<()> {
     Ok(())
 }
 
-fn decode_all(rt: &HostRuntime, text: &[u8], mirror: &mut [ReportRow]) -> anyhow::Result<()> {
-    for (number, line) in (1..=text.len()).zip(Lines::of(text)) {
-        match read_report(rt.alloc(), line) {
-            Ok(Some(bytes)) => {
-                let count = bytes.len();
-                println!(rt; "line {number} bytes={count}")?;
-                decode(rt, bytes.as_slice(), mirror)?;
-                print_mirror(rt, mirror)?;
-            }
-            Err(WordFault::OutOfMemory) => return Err(AllocError.into()),
-            // A line without a word; no line has a fault here.
-            Ok(None) | Err(_) => {}
-        }
+fn decode_all(
+    rt: &HostRuntime,
+    reports: &[Report],
+    mirror: &mut [ReportRow],
+) -> anyhow::Result<()> {
+    for report in reports {
+        println!(rt; "line {} bytes={}", report.line, report.bytes.len())?;
+        decode(rt, report.bytes.as_slice(), mirror)?;
+        print_mirror(rt, mirror)?;
     }
     Ok(())
 }
@@ -103,11 +110,9 @@ fn run(rt: &HostRuntime) -> anyhow::Result<()> {
     let rows = rows_wanted(rt)?;
     let mut text = Vec::new(rt.alloc());
     rt.stdin().read_to_end(&mut text)?;
-    if has_faults(rt, text.as_slice())? {
-        return Err(anyhow!("nothing was decoded"));
-    }
+    let reports = read_reports(rt, text.as_slice())?;
     let mut mirror = vec![in rt.alloc(); Row::at_making().report_row(); rows]?;
-    decode_all(rt, text.as_slice(), mirror.as_mut_slice())
+    decode_all(rt, reports.as_slice(), mirror.as_mut_slice())
 }
 
 fn main(rt: HostRuntime) -> anyhow::Result<()> {

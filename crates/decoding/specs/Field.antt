@@ -1,5 +1,5 @@
 -- The fields of a row by name, and the text of what they hold. Assumes nothing.
-use Rattle.std.specs.Prelude.{◌≡◌, ℕ, List, [], ◌∷◌, Some, None, codes, decimal, Option, Result, IfSome, MatchResult}
+use Rattle.std.specs.Prelude.{ℕ, List, [], ◌∷◌, Some, None, codes, decimal, Option, Result, IfSome, MatchResult}
 use Rattle.board.specs.Status.{door_status_of, door_status_name, lock_status_of, lock_status_name, output_of, output_name}
 use Rattle.board.specs.declared.refusal.Cause.{Cause}
 use Rattle.slots.specs.Value.{door_value_of, door_value_name}
@@ -37,9 +37,9 @@ abbrev pub name_or_number : {V : Type 0} → (V → List ℕ) → Option V → �
 name_or_number name (Some v) n = name v
 name_or_number name None n = decimal n
 
--- the same of what a conversion gives for the number and what a value prints
-abbrev pub NamesOrNumbers : {V : Type 0} → (ℕ → Result V Cause → Type 0) → (V → Option (List ℕ)) → ℕ → List ℕ → Type 0
-NamesOrNumbers {V} gives output n text = (r : Result V Cause) × gives n r × MatchResult r (λ v. IfSome (output v) (λ name. text ≡ name)) (λ _. text ≡ decimal n)
+-- the same of what a conversion gives for the number and what a value prints: `is` holds of that text
+abbrev pub NamesOrNumbers : {V : Type 0} → (ℕ → Result V Cause → Type 0) → (V → Option (List ℕ)) → ℕ → (List ℕ → Type 0) → Type 0
+NamesOrNumbers {V} gives output n is = (r : Result V Cause) × gives n r × MatchResult r (λ v. IfSome (output v) is) (λ _. is (decimal n))
 
 unfoldable pub value_text : Field → ℕ → List ℕ
 value_text field.PresentValue n = name_or_number door_value_name (door_value_of n) n

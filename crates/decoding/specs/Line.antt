@@ -2,7 +2,7 @@
 use Rattle.std.specs.Prelude.{ℕ, List, Some, None, Ok, Err, vec_items, Option, Result, Vec}
 use Rattle.text.specs.Words.{words}
 use Rattle.line_words.specs.declared.fault.WordFault.{WordFault}
-use Rattle.line_words.specs.declared.fault.WordFault.TheVariants.{Unknown, Missing, Extra, NotANumber, TooLarge, NotHex, OddHex, OutOfMemory}
+use Rattle.line_words.specs.declared.fault.WordFault.TheVariants.{Unknown, Missing, Extra, NotANumber, TooLarge, NotHex, OddHex}
 use Rattle.line_words.specs.Read.{rest, first_bytes, ended}
 
 -- a line with no word says nothing
@@ -14,7 +14,6 @@ none_if_missing NotANumber = Err NotANumber
 none_if_missing TooLarge = Err TooLarge
 none_if_missing NotHex = Err NotHex
 none_if_missing OddHex = Err OddHex
-none_if_missing OutOfMemory = Err OutOfMemory
 
 -- the bytes of the first word, which has to be the only one
 abbrev pub only_word : Result (List ℕ) WordFault → Result Unit WordFault → Result (Option (List ℕ)) WordFault
@@ -29,7 +28,6 @@ abbrev pub line_says : List ℕ → Result (Option (List ℕ)) WordFault
 line_says line = words_say (words line)
 
 -- what a value of the program says
-abbrev pub report_said : {Z : Type 0} → Result (Option (Vec ℕ Z)) WordFault → Result (Option (List ℕ)) WordFault
-report_said (Ok None) = Ok None
-report_said (Ok (Some v)) = Ok (Some (vec_items v))
-report_said (Err e) = Err e
+abbrev pub report_said : {Z : Type 0} → Option (Vec ℕ Z) → Option (List ℕ)
+report_said None = None
+report_said (Some v) = Some (vec_items v)

@@ -1,4 +1,4 @@
-ghost use Rattle.std.specs.Prelude.{◌≡◌, Some, IfOk, string_bytes};
+ghost use Rattle.std.specs.Prelude.{◌≡◌, ◌++◌, Some, OnOk, string_bytes};
 ghost use Rattle.decoding.specs.Field.{field_name, field_value, NamesOrNumbers, value_text};
 
 use board::refusal::Cause;
@@ -7,7 +7,7 @@ use door::shown::SecuredStatus;
 use events::alarm::AlarmState;
 use report::fields::Fields;
 use slots::value::DoorValue;
-use std::alloc::{AllocError, Global};
+use std::alloc::AllocError;
 use std::fmt;
 
 /// The fields of a row, in the order in which a record has them.
@@ -34,16 +34,16 @@ pub(crate) const FIELDS: [Field; 8] = [
     Field::ReleasedTenths,
 ];
 
-/// The name of the value with that number, or the number where no value has it.
-fn name_or_number<V: TryFrom<u64, Error = Cause> + fmt::Display + Copy>(
-    heap: Global,
+/// Writes the name of the value with that number, or the number where no value has it.
+fn push_name_or_number<V: TryFrom<u64, Error = Cause> + fmt::Display + Copy>(
+    out: &mut String,
     number: u32,
-) -> Result<String, AllocError>
-    ensures { IfOk result (λ s. NamesOrNumbers V.try_from_gives V.output number (string_bytes s)) }
+) -> Result<(), AllocError>
+    ensures { OnOk result (NamesOrNumbers V.try_from_gives V.output number (λ text. string_bytes out.new ≡ string_bytes out.old ++ text)) }
 {
     match V::try_from(u64::from(number)) {
-        Ok(value) => format!(in heap; "{value}"),
-        Err(_) => format!(in heap; "{number}"),
+        Ok(value) => write!(out, "{value}"),
+        Err(_) => write!(out, "{number}"),
     }
 }
 
@@ -81,18 +81,18 @@ impl Field {
         }
     }
 
-    /// The name of a value, or its number where it has none.
-    pub(crate) fn value_text(self, heap: Global, number: u32) -> Result<String, AllocError>
-        ensures { IfOk result (λ s. string_bytes s ≡ value_text self number) }
+    /// Writes the name of a value, or its number where it has none.
+    pub(crate) fn push_value(self, out: &mut String, number: u32) -> Result<(), AllocError>
+        ensures { OnOk result (string_bytes out.new ≡ string_bytes out.old ++ value_text self number) }
     {
         match self {
-            Field::PresentValue => name_or_number::<DoorValue>(heap, number),
-            Field::DoorAlarmState => name_or_number::<AlarmState>(heap, number),
-            Field::DoorStatus => name_or_number::<DoorStatus>(heap, number),
-            Field::LockStatus => name_or_number::<LockStatus>(heap, number),
-            Field::SecuredStatus => name_or_number::<SecuredStatus>(heap, number),
-            Field::Output => name_or_number::<Output>(heap, number),
-            Field::StatusFlags | Field::ReleasedTenths => format!(in heap; "{number}"),
+            Field::PresentValue => push_name_or_number::<DoorValue>(out, number),
+            Field::DoorAlarmState => push_name_or_number::<AlarmState>(out, number),
+            Field::DoorStatus => push_name_or_number::<DoorStatus>(out, number),
+            Field::LockStatus => push_name_or_number::<LockStatus>(out, number),
+            Field::SecuredStatus => push_name_or_number::<SecuredStatus>(out, number),
+            Field::Output => push_name_or_number::<Output>(out, number),
+            Field::StatusFlags | Field::ReleasedTenths => write!(out, "{number}"),
         }
     }
 }

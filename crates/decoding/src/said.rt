@@ -1,5 +1,5 @@
 ghost use Rattle.std.specs.Prelude.{◌≡◌, ◌++◌, IfOk, string_bytes, OnOk};
-ghost use Rattle.decoding.specs.Said.{field_text, text_in, fields_text, record_text, all_fields, row_text};
+ghost use Rattle.decoding.specs.Said.{text_in, fields_text, record_text, all_fields, row_text};
 
 use crate::field::{FIELDS, Field};
 use door::shown::ReportRow;
@@ -7,29 +7,15 @@ use mirror::record::Record;
 use report::fields::Fields;
 use std::alloc::{AllocError, Global};
 
-fn field_text(heap: Global, field: Field, value: Option<u32>) -> Result<String, AllocError>
-    ensures { IfOk result (λ s. string_bytes s ≡ field_text field value) }
-{
-    match value {
-        Some(number) => {
-            let text = field.value_text(heap, number)?;
-            format!(in heap; " {field}={text}")
-        }
-        None => Ok(String::new(heap)),
-    }
-}
-
-fn push_field(
-    heap: Global,
-    out: &mut String,
-    field: Field,
-    fields: &Fields,
-) -> Result<(), AllocError>
+/// Writes a field that is there, behind a blank.
+fn push_field(out: &mut String, field: Field, fields: &Fields) -> Result<(), AllocError>
     ensures { OnOk result (string_bytes out.new ≡ string_bytes out.old ++ text_in fields.now field) }
 {
-    let text = field_text(heap, field, field.value_in(fields))?;
-    out.push_str(text.as_str())?;
-    Ok(())
+    let Some(number) = field.value_in(fields) else {
+        return Ok(());
+    };
+    write!(out, " {field}=")?;
+    field.push_value(out, number)
 }
 
 /// The fields that are there, each behind a blank.
@@ -38,7 +24,7 @@ fn fields_text(heap: Global, fields: &Fields) -> Result<String, AllocError>
 {
     let mut out = String::new(heap);
     for field in FIELDS {
-        push_field(heap, &mut out, field, fields)?;
+        push_field(&mut out, field, fields)?;
     }
     Ok(out)
 }

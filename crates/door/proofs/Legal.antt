@@ -1,7 +1,9 @@
 -- What a door does keeps its record legal. Assumes nothing.
-use Rattle.std.proofs.Common.{◌≡◌, ℕ, zero, suc, ◌-◌, Bool, true, false, cond, not, ◌||◌, eqb, ltb, leb, List, [], ◌∷◌, map, set, Some, None, Ok, Err, Option, Result, sym, refl, ap, ◌∙◌, arith}
+use Rattle.std.proofs.Common.{◌≡◌, ℕ, ◌-◌, Bool, true, false, cond, not, ◌||◌, eqb, ltb, leb, List, [], ◌∷◌, map, set, Some, None, Ok, Err, Option, Result, sym, refl, ap, ◌∙◌, arith}
 use Rattle.std.proofs.lemmas.Bool.{and_parts, and_from}
 use Rattle.std.proofs.lemmas.Bool.Decides.{nat_tests}
+use Rattle.std.proofs.lemmas.List.Elements.{All-set}
+use Rattle.std.proofs.lemmas.List.Sums.{AllPass-from_list_all, list_all-from_AllPass}
 use Rattle.slots.specs.declared.value.DoorValue.{DoorValue}
 use Rattle.slots.specs.declared.value.DoorValue.TheVariants.{Lock, Unlock, PulseUnlock, ExtendedPulseUnlock}
 use Rattle.slots.specs.declared.timed.Timed.{Timed}
@@ -44,9 +46,7 @@ timed-stored b p e (Some PulseUnlock) = long_pulse b PulseUnlock p
 timed-stored b p e (Some ExtendedPulseUnlock) = long_pulse b ExtendedPulseUnlock e
 
 all_timed-set : (xs : List (Option Timed)) (i : ℕ) (s : Option Timed) → all_timed xs ≡ true → timed s ≡ true → all_timed (set xs i s) ≡ true
-all_timed-set [] i s h k = refl
-all_timed-set (x ∷ xs) zero s h k = and_from _ _ k (and_parts (timed x) (all_timed xs) h).1
-all_timed-set (x ∷ xs) (suc i) s h k = and_from _ _ (and_parts (timed x) (all_timed xs) h).0 (all_timed-set xs i s (and_parts (timed x) (all_timed xs) h).1 k)
+all_timed-set xs i s h k = list_all-from_AllPass timed (set xs i s) (All-set (λ x. timed x ≡ true) xs i s k (AllPass-from_list_all timed xs h))
 
 at_place : (b : Bool) (xs : List (Option Timed)) (i : ℕ) (s : Option Timed) → all_timed xs ≡ true → timed s ≡ true → all_timed (cond b (set xs i s) xs) ≡ true
 at_place true xs i s h k = all_timed-set xs i s h k

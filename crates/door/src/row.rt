@@ -43,7 +43,8 @@ impl Row {
         self.commanded.slots.are_timed()
     }
 
-    /// Settles after a call; `before` is the alarm state as the call began.
+    /// Settles after a call: what follows from what was written is worked out again. `before` is the alarm state as the
+    /// call began.
     pub(crate) fn settled(self, before: AlarmState) -> Row
         ensures { result ≡ settled self before }
     {

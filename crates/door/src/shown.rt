@@ -60,6 +60,16 @@ impl SecuredStatus {
     {
         self as u8
     }
+
+    pub fn name(self) -> &'static str
+        ensures { result.now ≡ secured_status_name self }
+    {
+        match self {
+            SecuredStatus::Secured => "SECURED",
+            SecuredStatus::Unsecured => "UNSECURED",
+            SecuredStatus::Unknown => "UNKNOWN",
+        }
+    }
 }
 
 impl TryFrom<u64> for SecuredStatus {
@@ -81,15 +91,12 @@ impl fmt::Display for SecuredStatus {
     ghost output = { λ status. Some (secured_status_name status) };
 
     fn fmt<W: fmt::Write>(&self, f: &mut fmt::Formatter<W>) -> fmt::Result {
-        f.write_str(match self {
-            SecuredStatus::Secured => "SECURED",
-            SecuredStatus::Unsecured => "UNSECURED",
-            SecuredStatus::Unknown => "UNKNOWN",
-        })
+        f.write_str(SecuredStatus::name(*self))
     }
 }
 
 impl StatusFlags {
+    // A sum of bits: std converts one bool to a number, and no four of them.
     /// Bit 0 is IN_ALARM, 1 FAULT, 2 OVERRIDDEN, 3 OUT_OF_SERVICE.
     pub fn number(self) -> u8
         ensures { result ≡ flags_number self }

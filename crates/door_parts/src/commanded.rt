@@ -8,8 +8,8 @@ use slots::priority_array::PriorityArray;
 use slots::timed::Timed;
 use slots::value::DoorValue;
 
-/// What follows from commands, settings, service and ticks, with no contact and no reading: the slots, the value that rules them, how long a pulse still waits before
-/// it releases, and what the output is driven to.
+/// What follows from commands, settings, service and ticks, with no contact and no reading: the slots, the value that
+/// rules them, how long a pulse still waits before it releases, and what the output is driven to.
 #[derive(Clone, Copy)]
 pub struct Commanded {
     pub slots: PriorityArray<Timed>,
@@ -61,24 +61,15 @@ fn store_pulse(outranked: bool, value: DoorValue, time: u32) -> Option<Timed>
 fn store(outranked: bool, settings: &Settings, value: Option<DoorValue>) -> Option<Timed>
     ensures { result ≡ stored outranked settings.now.door_pulse_time settings.now.door_extended_pulse_time value }
 {
+    let value = value?;
     match value {
-        None => None,
-        Some(DoorValue::PulseUnlock) => store_pulse(
+        DoorValue::Lock | DoorValue::Unlock => Some(Timed { value, left: 0 }),
+        DoorValue::PulseUnlock => store_pulse(outranked, value, settings.door_pulse_time),
+        DoorValue::ExtendedPulseUnlock => store_pulse(
             outranked,
-            DoorValue::PulseUnlock,
-            settings.door_pulse_time,
+            value,
+            settings.door_extended_pulse_time,
         ),
-        Some(DoorValue::ExtendedPulseUnlock) => {
-            store_pulse(
-                outranked,
-                DoorValue::ExtendedPulseUnlock,
-                settings.door_extended_pulse_time,
-            )
-        }
-        Some(lasting) => Some(Timed {
-            value: lasting,
-            left: 0,
-        }),
     }
 }
 

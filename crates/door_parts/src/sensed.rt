@@ -110,6 +110,7 @@ impl Sensed {
         self.door_status == DoorStatus::Opened && present_value.is_lock()
     }
 
+    // Three `if`s and no table of pairs to search: the order of the alarms is read off them.
     /// The first alarm that holds and is not masked.
     fn alarm_under(&self, settings: &Settings, present_value: DoorValue) -> AlarmState
         ensures { result ≡ alarm_of_door settings.now self.now.lock_status self.now.door_status present_value self.now.forced self.now.open_count }
@@ -144,7 +145,8 @@ impl Sensed {
         }
     }
 
-    /// Settles under the value that rules; `before` is the alarm state as the call began.
+    /// Settles under the value that rules: the mark, the counts and the alarm state are worked out again. `before` is the
+    /// alarm state as the call began.
     pub fn settled(
         self,
         settings: &Settings,

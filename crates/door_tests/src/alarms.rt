@@ -121,7 +121,12 @@ fn sets_have_bits_1_to_8(rt: HostRuntime) -> Result<(), Fail> {
             bench.set(item, 510)?;
             bench.set(item, 0)?;
             for number in [1u64, 511, 512, 65536, u64::MAX] {
-                refused(&rt, bench.door()?.set(item, number), Cause::ValueOutOfRange)?;
+                refused(
+                    &rt,
+                    &[item, number],
+                    bench.door()?.set(item, number),
+                    Cause::ValueOutOfRange,
+                )?;
             }
         }
     }
@@ -145,12 +150,18 @@ fn settings_have_ranges(rt: HostRuntime) -> Result<(), Fail> {
             bench.set(item, most)?;
             refused(
                 &rt,
+                &[item, most.saturating_add(1)],
                 bench.door()?.set(item, most.saturating_add(1)),
                 Cause::ValueOutOfRange,
             )?;
         }
         for item in [0u64, 6, 8, 226, 231, 233, 235, u64::MAX] {
-            refused(&rt, bench.door()?.set(item, u64::MAX), Cause::NoSuchItem)?;
+            refused(
+                &rt,
+                &[item, u64::MAX],
+                bench.door()?.set(item, u64::MAX),
+                Cause::NoSuchItem,
+            )?;
         }
     }
     Ok(())

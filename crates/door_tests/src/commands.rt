@@ -49,22 +49,26 @@ fn bad_numbers_are_refused(rt: HostRuntime) -> Result<(), Fail> {
         for priority in [0u64, 6, 17, u64::MAX] {
             refused(
                 &rt,
+                &[priority, 0],
                 bench.door()?.command(priority, LOCK),
                 Cause::NoSuchPriority,
             )?;
             refused(
                 &rt,
+                &[priority, 9],
                 bench.door()?.command(priority, Some(9)),
                 Cause::NoSuchPriority,
             )?;
         }
         refused(
             &rt,
+            &[1, 4],
             bench.door()?.command(1, Some(4)),
             Cause::ValueOutOfRange,
         )?;
         refused(
             &rt,
+            &[16, u64::MAX],
             bench.door()?.command(16, Some(u64::MAX)),
             Cause::ValueOutOfRange,
         )?;

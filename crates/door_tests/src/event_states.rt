@@ -34,7 +34,12 @@ fn an_alarm_leads_to_offnormal_and_back(rt: HostRuntime) -> Result<(), Fail> {
         bench.acknowledge(0)?;
         bench.acknowledge(2)?;
         assert_eq!(rt; bench.row().events.acked.number(), 7);
-        refused(&rt, bench.door()?.acknowledge(3), Cause::ValueOutOfRange)?;
+        refused(
+            &rt,
+            &[3],
+            bench.door()?.acknowledge(3),
+            Cause::ValueOutOfRange,
+        )?;
     }
     Ok(())
 }

@@ -100,12 +100,13 @@ pub(crate) fn accepted<T: Drop>(outcome: Result<T, Cause>) -> Result<T, Fail> {
     outcome.map_err(|cause| Fail::new(cause.number()))
 }
 
-// A call is refused for that cause.
+// A call that was given these numbers is refused for that cause.
 pub(crate) fn refused<T: Drop>(
     rt: &impl Abort,
+    given: &[u64],
     outcome: Result<T, Cause>,
     wanted: Cause,
 ) -> Result<(), Fail> {
-    assert_eq!(rt; outcome.err(), Some(wanted));
+    assert_eq!(rt; outcome.err(), Some(wanted), "given {given:?}");
     Ok(())
 }

@@ -87,6 +87,7 @@ fn a_door_released_for_so_long_is_not_ticked(rt: HostRuntime) -> Result<(), Fail
     };
     refused(
         &rt,
+        &[7],
         door_of(full)?.tick(DoorStatus::Closed, LockStatus::Unknown, 7),
         Cause::LastTenth,
     )?;

@@ -32,32 +32,50 @@ fn simulating_is_refused_in_order(rt: HostRuntime) -> Result<(), Fail> {
     for reading in READINGS {
         let mut bench = Bench::new(reading);
         bench.set(234, 16)?;
-        refused(&rt, bench.door()?.simulate(230, 0), Cause::NoSuchItem)?;
-        refused(&rt, bench.door()?.simulate(230, 99), Cause::NoSuchItem)?;
+        refused(
+            &rt,
+            &[230, 0],
+            bench.door()?.simulate(230, 0),
+            Cause::NoSuchItem,
+        )?;
+        refused(
+            &rt,
+            &[230, 99],
+            bench.door()?.simulate(230, 99),
+            Cause::NoSuchItem,
+        )?;
         for (item, number) in [(231u64, 3u64), (233, 4), (226, 9)] {
             refused(
                 &rt,
+                &[item, number],
                 bench.door()?.simulate(item, number),
                 Cause::ValueOutOfRange,
             )?;
             refused(
                 &rt,
+                &[item, number.saturating_sub(1)],
                 bench.door()?.simulate(item, number.saturating_sub(1)),
                 Cause::SimulateInService,
             )?;
         }
         refused(
             &rt,
+            &[226, 4],
             bench.door()?.simulate(226, 4),
             Cause::SimulateInService,
         )?;
         bench.service(1)?;
-        refused(&rt, bench.door()?.simulate(226, 4), Cause::AlarmStateMasked)?;
+        refused(
+            &rt,
+            &[226, 4],
+            bench.door()?.simulate(226, 4),
+            Cause::AlarmStateMasked,
+        )?;
         bench.simulate(226, 8)?;
         assert_eq!(rt; bench.row().sensed.alarm_state.number(), 8);
         bench.set(234, 256)?;
         assert_eq!(rt; bench.row().sensed.alarm_state.number(), 0);
-        refused(&rt, bench.door()?.service(2), Cause::ValueOutOfRange)?;
+        refused(&rt, &[2], bench.door()?.service(2), Cause::ValueOutOfRange)?;
     }
     Ok(())
 }

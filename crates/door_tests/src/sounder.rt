@@ -17,7 +17,22 @@ fn the_same_rule_serves_the_sounder(rt: HostRuntime) -> Result<(), Fail> {
     assert_eq!(rt; silenced.present().number(), 0);
     let again = after(silenced, 1, None)?;
     assert_eq!(rt; again.present().number(), 1);
-    refused(&rt, made.command(6, Some(1)), Cause::NoSuchPriority)?;
-    refused(&rt, made.command(17, Some(2)), Cause::NoSuchPriority)?;
-    refused(&rt, made.command(5, Some(2)), Cause::ValueOutOfRange)
+    refused(
+        &rt,
+        &[6, 1],
+        made.command(6, Some(1)),
+        Cause::NoSuchPriority,
+    )?;
+    refused(
+        &rt,
+        &[17, 2],
+        made.command(17, Some(2)),
+        Cause::NoSuchPriority,
+    )?;
+    refused(
+        &rt,
+        &[5, 2],
+        made.command(5, Some(2)),
+        Cause::ValueOutOfRange,
+    )
 }

@@ -26,6 +26,22 @@ impl AlarmState {
         self as u8
     }
 
+    pub fn name(self) -> &'static str
+        ensures { result.now ≡ alarm_state_name self }
+    {
+        match self {
+            AlarmState::Normal => "NORMAL",
+            AlarmState::Alarm => "ALARM",
+            AlarmState::DoorOpenTooLong => "DOOR_OPEN_TOO_LONG",
+            AlarmState::ForcedOpen => "FORCED_OPEN",
+            AlarmState::Tamper => "TAMPER",
+            AlarmState::DoorFault => "DOOR_FAULT",
+            AlarmState::LockDown => "LOCK_DOWN",
+            AlarmState::FreeAccess => "FREE_ACCESS",
+            AlarmState::EgressOpen => "EGRESS_OPEN",
+        }
+    }
+
     /// The bit of this state in a set of states.
     fn bit(self) -> u16
         ensures { result ≡ alarm_bit self }
@@ -66,16 +82,6 @@ impl fmt::Display for AlarmState {
     ghost output = { λ state. Some (alarm_state_name state) };
 
     fn fmt<W: fmt::Write>(&self, f: &mut fmt::Formatter<W>) -> fmt::Result {
-        f.write_str(match self {
-            AlarmState::Normal => "NORMAL",
-            AlarmState::Alarm => "ALARM",
-            AlarmState::DoorOpenTooLong => "DOOR_OPEN_TOO_LONG",
-            AlarmState::ForcedOpen => "FORCED_OPEN",
-            AlarmState::Tamper => "TAMPER",
-            AlarmState::DoorFault => "DOOR_FAULT",
-            AlarmState::LockDown => "LOCK_DOWN",
-            AlarmState::FreeAccess => "FREE_ACCESS",
-            AlarmState::EgressOpen => "EGRESS_OPEN",
-        })
+        f.write_str(AlarmState::name(*self))
     }
 }

@@ -82,6 +82,7 @@ impl Transition {
         1 << self.number()
     }
 
+    // Event_Enable is a number, a bit string of BACnet, as the call that sets it is given it.
     /// Whether Event_Enable has this transition.
     pub fn is_in(self, event_enable: u8) -> bool
         ensures { result ≡ enabled event_enable self }
@@ -118,6 +119,7 @@ pub fn class_of(alarm: AlarmState, alarm_values: u16, fault_values: u16) -> Clas
     }
 }
 
+// No stamp is None: one that never happened is shown as 0, since the properties are numbers.
 /// A door's events: its state, which transitions are acknowledged (Acked_Transitions), and when each last happened while
 /// it was enabled, in tenths; 0 before the first.
 #[derive(Clone, Copy)]

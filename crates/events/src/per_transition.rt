@@ -34,6 +34,7 @@ impl<T: Copy> PerTransition<T> {
 }
 
 impl PerTransition<bool> {
+    // A sum of bits: std converts one bool to a number, and no three of them.
     /// The three bits as a number: bit 0 TO-OFFNORMAL, 1 TO-FAULT, 2 TO-NORMAL.
     pub fn number(&self) -> u8
         ensures { result ≡ acked_number self.now }

@@ -57,7 +57,7 @@ raised_next : (q : Notices) (d : ℕ) (r : Row) (t : Option Transition) → (rai
 raised_next q d r None = omega arith
 raised_next q d r (Some t) = by_test (enabled r.settings.event_enable t) q 0 (raised q (notice_of q.next d r t)) refl
 
-doors_by : (b : Bool) (h : Held) (d : ℕ) (o : Output) → (cond b h (with_output h d o)).doors ≡ h.doors
+pub doors_by : (b : Bool) (h : Held) (d : ℕ) (o : Output) → (cond b h (with_output h d o)).doors ≡ h.doors
 doors_by true h d o = refl
 doors_by false h d o = refl
 

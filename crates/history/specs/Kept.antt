@@ -1,5 +1,6 @@
 -- What holds of every row of a panel's table. Assumes nothing.
 use Rattle.std.specs.Prelude.{◌≡◌, ℕ, ◌+◌, ◌*◌, ◌<◌, ◌≤◌, Bool, true, ◌&&◌, List, [], ◌∷◌, Ok, Err, Result, nat_le}
+use Rattle.std.specs.List.{list_all}
 use Rattle.board.specs.declared.refusal.Cause.{Cause}
 use Rattle.door.specs.declared.row.Row.{Row}
 use Rattle.door.specs.Row.{legal}
@@ -10,8 +11,7 @@ abbrev pub kept : ℕ → Row → Bool
 kept tenth r = legal r && (nat_le r.released_tenths tenth && nat_le r.released_tenths 2000000000)
 
 unfoldable pub all_kept : ℕ → List Row → Bool
-all_kept tenth [] = true
-all_kept tenth (r ∷ rs) = kept tenth r && all_kept tenth rs
+all_kept tenth rows = list_all (kept tenth) rows
 
 -- a row that a call made is kept
 abbrev pub MadeKept : ℕ → Result Row Cause → Type 0

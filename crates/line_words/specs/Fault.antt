@@ -5,18 +5,20 @@ use Rattle.numeral.specs.declared.decimal.NumberFault.TheVariants as number
 use Rattle.numeral.specs.declared.hex.HexFault.{HexFault}
 use Rattle.numeral.specs.declared.hex.HexFault.TheVariants as hex
 use Rattle.line_words.specs.declared.fault.WordFault.{WordFault}
-use Rattle.line_words.specs.declared.fault.WordFault.TheVariants.{Unknown, Missing, Extra, NotANumber, TooLarge, NotHex, OddHex, OutOfMemory}
+use Rattle.line_words.specs.declared.fault.WordFault.TheVariants.{Unknown, Missing, Extra, NotANumber, TooLarge, NotHex, OddHex}
+use Rattle.line_words.specs.declared.fault.ReadFault.{ReadFault}
+use Rattle.line_words.specs.declared.fault.ReadFault.TheVariants.{Word, OutOfMemory}
 
 -- a number that is none, as a fault of its word
 abbrev pub number_fault : NumberFault → WordFault
 number_fault number.NotDigits = NotANumber
 number_fault number.TooLarge = TooLarge
 
--- bytes that are none, as a fault of their word
-abbrev pub hex_fault : HexFault → WordFault
-hex_fault hex.NotHex = NotHex
-hex_fault hex.OddDigits = OddHex
-hex_fault hex.OutOfMemory = OutOfMemory
+-- bytes that were not read: a fault of their word, or want of memory
+abbrev pub hex_read_fault : HexFault → ReadFault
+hex_read_fault hex.NotHex = Word NotHex
+hex_read_fault hex.OddDigits = Word OddHex
+hex_read_fault (hex.OutOfMemory e) = OutOfMemory e
 
 abbrev pub word_reason : WordFault → List ℕ
 word_reason Unknown = codes "unknown word"
@@ -26,4 +28,3 @@ word_reason NotANumber = codes "not a number"
 word_reason TooLarge = codes "number too large"
 word_reason NotHex = codes "not a hex digit"
 word_reason OddHex = codes "odd number of hex digits"
-word_reason OutOfMemory = codes "out of memory"

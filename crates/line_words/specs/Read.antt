@@ -1,12 +1,16 @@
 -- What the first of some words says. Assumes nothing.
-use Rattle.std.specs.Prelude.{ℕ, cond, List, [], ◌∷◌, Ok, Err, vec_items, Result, Vec, nat_lt}
+use Rattle.std.specs.Prelude.{ℕ, ◌≡◌, cond, List, [], ◌∷◌, Ok, Err, Result, nat_lt}
+use Rattle.std.specs.Bool.{⊤}
 use Rattle.numeral.specs.Decimal.{decimal_answer}
 use Rattle.numeral.specs.Hex.{hex_answer}
 use Rattle.numeral.specs.declared.decimal.NumberFault.{NumberFault}
 use Rattle.numeral.specs.declared.hex.HexFault.{HexFault}
-use Rattle.line_words.specs.Fault.{number_fault, hex_fault}
+use Rattle.numeral.specs.declared.hex.HexFault.TheVariants as hex
+use Rattle.line_words.specs.Fault.{number_fault}
+use Rattle.line_words.specs.declared.fault.ReadFault.{ReadFault}
+use Rattle.line_words.specs.declared.fault.ReadFault.TheVariants.{Word, OutOfMemory}
 use Rattle.line_words.specs.declared.fault.WordFault.{WordFault}
-use Rattle.line_words.specs.declared.fault.WordFault.TheVariants.{Missing, Extra, TooLarge}
+use Rattle.line_words.specs.declared.fault.WordFault.TheVariants.{Missing, Extra, TooLarge, NotHex, OddHex}
 
 -- the first fault stands; without one, what comes next
 abbrev pub then : {X Y F : Type 0} → Result X F → (X → Result Y F) → Result Y F
@@ -33,9 +37,12 @@ abbrev pub limited : ℕ → Result ℕ WordFault → Result ℕ WordFault
 limited m (Ok n) = cond (nat_lt m n) (Err TooLarge) (Ok n)
 limited m (Err e) = Err e
 
+-- `hex_answer` never has the last case: what a word writes asks for no memory
 abbrev pub hex_said : Result (List ℕ) HexFault → Result (List ℕ) WordFault
 hex_said (Ok bs) = Ok bs
-hex_said (Err e) = Err (hex_fault e)
+hex_said (Err hex.NotHex) = Err NotHex
+hex_said (Err hex.OddDigits) = Err OddHex
+hex_said (Err (hex.OutOfMemory e)) = Err NotHex
 
 abbrev pub first_bytes : List (List ℕ) → Result (List ℕ) WordFault
 first_bytes [] = Err Missing
@@ -45,7 +52,8 @@ abbrev pub ended : List (List ℕ) → Result Unit WordFault
 ended [] = Ok tt
 ended (w ∷ ws) = Err Extra
 
--- what was read, as a list of bytes
-abbrev pub bytes_said : {Z : Type 0} → Result (Vec ℕ Z) WordFault → Result (List ℕ) WordFault
-bytes_said (Ok v) = Ok (vec_items v)
-bytes_said (Err e) = Err e
+-- what was read, as `said` shows it, is exactly what the words say; out of memory, nothing was read
+abbrev pub Reads : {X Y : Type 0} → (X → Y) → Result X ReadFault → Result Y WordFault → Type 0
+Reads said (Ok x) r = Ok (said x) ≡ r
+Reads said (Err (Word e)) r = Err e ≡ r
+Reads said (Err (OutOfMemory e)) r = ⊤

@@ -1,8 +1,10 @@
 ghost use Rattle.std.specs.Prelude.{◌≡◌, Some};
-ghost use Rattle.line_words.specs.Fault.{number_fault, hex_fault, word_reason};
+ghost use Rattle.line_words.specs.Fault.{number_fault, hex_read_fault, word_reason};
+ghost use Rattle.line_words.specs.declared.fault.ReadFault.TheVariants.{Word};
 
 use numeral::decimal::NumberFault;
 use numeral::hex::HexFault;
+use std::alloc::AllocError;
 use std::fmt;
 
 /// What is wrong with a word of a line, or with how many there are.
@@ -15,8 +17,13 @@ pub enum WordFault {
     TooLarge,
     NotHex,
     OddHex,
-    /// What the word says finds no room.
-    OutOfMemory,
+}
+
+/// Why nothing was read. Want of memory is no fault of a word.
+#[derive(Clone, Copy)]
+pub enum ReadFault {
+    Word(WordFault),
+    OutOfMemory(AllocError),
 }
 
 impl From<NumberFault> for WordFault {
@@ -30,14 +37,38 @@ impl From<NumberFault> for WordFault {
     }
 }
 
-impl From<HexFault> for WordFault {
-    ghost from_gives = { λ fault r. r ≡ hex_fault fault };
+impl From<WordFault> for ReadFault {
+    ghost from_gives = { λ fault r. r ≡ Word fault };
 
-    fn from(fault: HexFault) -> WordFault {
+    fn from(fault: WordFault) -> ReadFault {
+        ReadFault::Word(fault)
+    }
+}
+
+impl From<HexFault> for ReadFault {
+    ghost from_gives = { λ fault r. r ≡ hex_read_fault fault };
+
+    fn from(fault: HexFault) -> ReadFault {
         match fault {
-            HexFault::NotHex => WordFault::NotHex,
-            HexFault::OddDigits => WordFault::OddHex,
-            HexFault::OutOfMemory => WordFault::OutOfMemory,
+            HexFault::NotHex => ReadFault::Word(WordFault::NotHex),
+            HexFault::OddDigits => ReadFault::Word(WordFault::OddHex),
+            HexFault::OutOfMemory(error) => ReadFault::OutOfMemory(error),
+        }
+    }
+}
+
+impl WordFault {
+    pub fn reason(self) -> &'static str
+        ensures { result.now ≡ word_reason self }
+    {
+        match self {
+            WordFault::Unknown => "unknown word",
+            WordFault::Missing => "a word is missing",
+            WordFault::Extra => "a word too many",
+            WordFault::NotANumber => "not a number",
+            WordFault::TooLarge => "number too large",
+            WordFault::NotHex => "not a hex digit",
+            WordFault::OddHex => "odd number of hex digits",
         }
     }
 }
@@ -46,15 +77,6 @@ impl fmt::Display for WordFault {
     ghost output = { λ fault. Some (word_reason fault) };
 
     fn fmt<W: fmt::Write>(&self, f: &mut fmt::Formatter<W>) -> fmt::Result {
-        f.write_str(match self {
-            WordFault::Unknown => "unknown word",
-            WordFault::Missing => "a word is missing",
-            WordFault::Extra => "a word too many",
-            WordFault::NotANumber => "not a number",
-            WordFault::TooLarge => "number too large",
-            WordFault::NotHex => "not a hex digit",
-            WordFault::OddHex => "odd number of hex digits",
-            WordFault::OutOfMemory => "out of memory",
-        })
+        f.write_str(WordFault::reason(*self))
     }
 }

@@ -1,9 +1,10 @@
 //! The next word of a line as a number or bytes, the end of the line, and what one word is.
-ghost use Rattle.std.specs.Prelude.{◌≡◌, ◌≤◌, ◌⊎◌, IfOk, IsErrOf};
+//! Each reader promises what it leaves, since a caller reads on from there.
+ghost use Rattle.std.specs.Prelude.{◌≡◌, ◌≤◌, IfOk, vec_items};
 ghost use Rattle.std.specs.Str.{bytes_eq};
-ghost use Rattle.line_words.specs.Read.{rest, word_number, first_number, limited, first_bytes, bytes_said, ended};
+ghost use Rattle.line_words.specs.Read.{rest, word_number, first_number, limited, first_bytes, Reads, ended};
 
-use crate::fault::WordFault;
+use crate::fault::{ReadFault, WordFault};
 use numeral::decimal::decimal;
 use numeral::hex::hex_bytes;
 use std::alloc::Global;
@@ -38,8 +39,8 @@ pub fn read_limited(words: &mut Words<'_>, limit: u64) -> Result<u64, WordFault>
 }
 
 /// Bytes as pairs of hex digits; `-` stands for none.
-pub fn read_bytes(heap: Global, words: &mut Words<'_>) -> Result<Vec<u8>, WordFault>
-    ensures value { IsErrOf result WordFault.OutOfMemory ⊎ (bytes_said result ≡ first_bytes words.old) }
+pub fn read_bytes(heap: Global, words: &mut Words<'_>) -> Result<Vec<u8>, ReadFault>
+    ensures value { Reads vec_items result (first_bytes words.old) }
     ensures after { words.new ≡ rest words.old }
 {
     let word = words.next().ok_or(WordFault::Missing)?;
@@ -56,7 +57,7 @@ pub fn read_end(words: &mut Words<'_>) -> Result<(), WordFault>
     }
 }
 
-/// Whether `word` is `text`, byte for byte.
+/// Whether `word` is `text`, byte for byte. A keyword among several is an arm of a `match`; this is the test for one alone.
 pub fn spells(word: &[u8], text: &[u8]) -> bool
     ensures { result ≡ bytes_eq word.now text.now }
 {

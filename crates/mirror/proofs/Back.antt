@@ -1,5 +1,5 @@
 -- Reading back what was written, field by field. Assumes nothing.
-use Rattle.std.proofs.Common.{◌≡◌, ℕ, ◌+◌, Bool, cond, not, eqb, List, ◌∷◌, ◌++◌, get_or, take, drop, length, is_some, Some, None, Option, sym, refl, ap, ◌∙◌, append_assoc, arith}
+use Rattle.std.proofs.Common.{◌≡◌, ℕ, ◌+◌, Bool, cond, not, eqb, List, ◌∷◌, ◌++◌, get_or, take, drop, length, is_some, Some, None, Option, sym, ap, ◌∙◌, append_assoc, arith}
 use lib.Bits.{bit_and}
 use Rattle.std.proofs.lemmas.List.{get_or-drop, drop-drop, take_at, drop_at}
 use Rattle.std.proofs.lemmas.Bool.{cond-true, cond-false}
@@ -8,6 +8,8 @@ use Rattle.report.specs.Fields.{one_byte, four_bytes, of_one_byte, of_four_bytes
 use Rattle.report.specs.Writing.{encoded}
 use Rattle.mirror.specs.Reading.{field_width, fields_width, fields_size, field_at, fields_read, rest_1, rest_2, rest_3, rest_4, rest_5, rest_6, rest_7}
 use Rattle.mirror.proofs.Bits.{stands}
+use Rattle.report.specs.contracts.value.U8FieldValue1.TheImpl.Laws as one
+use Rattle.report.specs.contracts.value.U32FieldValue4.TheImpl.Laws as four
 
 -- what stands at p, and what follows it
 pub at_place : (bs : List ℕ) (p v : ℕ) (rest : List ℕ) → drop p bs ≡ v ∷ rest → (get_or bs p 0 ≡ v) × (drop (p + 1) bs ≡ rest)
@@ -25,11 +27,8 @@ field_back n bytes value l k map bit (Some v) bs rest e d = (
   ap (λ w. drop w bs) (cond-false _ _ _ e) ∙ ap (drop n) d ∙ drop_at (bytes v) rest n (l v),
 )
 
-four_back : (v : ℕ) → of_four_bytes (four_bytes v) ≡ v
-four_back v = omega arith
-
 abbrev byte_back : (map bit : ℕ) (o : Option ℕ) (bs rest : List ℕ) → eqb (bit_and map bit) 0 ≡ not (is_some o) → bs ≡ field_bytes one_byte o ++ rest → (field_at 1 of_one_byte map bit bs ≡ o) × (drop (field_width 1 map bit) bs ≡ rest)
-byte_back = field_back 1 one_byte of_one_byte (λ v. refl) (λ v. refl)
+byte_back = field_back 1 one_byte of_one_byte one.length_bytes-law one.read_back-law
 
 -- the bytes of a record, one part behind the other
 regrouped : (d : ℕ) (f : Fields) (rest : List ℕ) → encoded d f ++ rest ≡ map_of f ∷ d ∷ (field_bytes one_byte f.present_value ++ (field_bytes one_byte f.status_flags ++ (field_bytes one_byte f.door_alarm_state ++ (field_bytes one_byte f.door_status ++ (field_bytes one_byte f.lock_status ++ (field_bytes one_byte f.secured_status ++ (field_bytes one_byte f.output ++ (field_bytes four_bytes f.released_tenths ++ rest))))))))
@@ -64,7 +63,7 @@ record_back d f bs p rest e =
     let r4 = byte_back m 16 f.lock_status (rest_4 m bs') _ (stands f 4) r3.1 in
     let r5 = byte_back m 32 f.secured_status (rest_5 m bs') _ (stands f 5) r4.1 in
     let r6 = byte_back m 64 f.output (rest_6 m bs') _ (stands f 6) r5.1 in
-    let r7 = field_back 4 four_bytes of_four_bytes (λ v. refl) four_back m 128 f.released_tenths (rest_7 m bs') _ (stands f 7) r6.1 in
+    let r7 = field_back 4 four_bytes of_four_bytes four.length_bytes-law four.read_back-law m 128 f.released_tenths (rest_7 m bs') _ (stands f 7) r6.1 in
     let whole : drop (field_width 4 m 128) (rest_7 m bs') ≡ drop (p + 2 + fields_width m) bs = simp drop-drop (ap (λ i. drop i bs) (omega arith)) in
     record {
       map = h.0;

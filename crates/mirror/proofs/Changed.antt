@@ -1,16 +1,20 @@
 -- The fields between two rows take the one to the other. Assumes nothing.
-use Rattle.std.proofs.Common.{◌≡◌, ℕ, ◌≤◌, Bool, true, false, cond, eqb, Some, None, unwrap_or, refl, arith}
+use Rattle.std.proofs.Common.{◌≡◌, ℕ, ◌≤◌, Bool, true, false, cond, eqb, Some, None, Option, unwrap_or, refl, arith}
 use Rattle.std.proofs.lemmas.Bool.{eqb-true}
 use Rattle.door.specs.declared.shown.ReportRow.{ReportRow}
 use Rattle.report.specs.Fields.{if_new, fields_between, bit_of, map_of}
 use Rattle.mirror.specs.Apply.{applied}
 
-by_test : (b : Bool) (o n : ℕ) → (b ≡ true → o ≡ n) → unwrap_or (cond b None (Some n)) o ≡ n
-by_test true o n h = h refl
-by_test false o n h = refl
+by_test : (P : Option ℕ → Type 0) (b : Bool) (o n : ℕ) → (b ≡ true → o ≡ n) → (o ≡ n → P None) → P (Some n) → P (cond b None (Some n))
+by_test P true o n h same new = same (h refl)
+by_test P false o n h same new = new
+
+-- what holds of no field where the values are the same, and of the new value
+pub of_new : (P : Option ℕ → Type 0) (o n : ℕ) → (o ≡ n → P None) → P (Some n) → P (if_new o n)
+of_new P o n = by_test P (eqb o n) o n (eqb-true o n)
 
 new_value : (o n : ℕ) → unwrap_or (if_new o n) o ≡ n
-new_value o n = by_test (eqb o n) o n (eqb-true o n)
+new_value o n = of_new (λ v. unwrap_or v o ≡ n) o n (λ e. e) refl
 
 abbrev row_of : ℕ → ℕ → ℕ → ℕ → ℕ → ℕ → ℕ → ℕ → ReportRow
 row_of a b c d e g h i = record { present_value = a; status_flags = b; door_alarm_state = c; door_status = d; lock_status = e; secured_status = g; output = h; released_tenths = i }
@@ -31,12 +35,8 @@ applied-between old new =
     (new_value old.output new.output)
     (new_value old.released_tenths new.released_tenths)
 
-unchanged : (b : Bool) (o n w : ℕ) → 1 ≤ w → (b ≡ true → o ≡ n) → bit_of (cond b None (Some n)) w ≡ 0 → o ≡ n
-unchanged true o n w l h e = h refl
-unchanged false o n w l h e = absurd (omega arith)
-
 kept : (o n w : ℕ) → 1 ≤ w → bit_of (if_new o n) w ≡ 0 → o ≡ n
-kept o n w l e = unchanged (eqb o n) o n w l (eqb-true o n) e
+kept o n w l = of_new (λ v. bit_of v w ≡ 0 → o ≡ n) o n (λ e z. e) (λ z. absurd (omega arith))
 
 -- where no field differs the rows are the same
 pub same_between : (old new : ReportRow) → map_of (fields_between old new) ≡ 0 → old ≡ new

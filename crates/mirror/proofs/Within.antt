@@ -1,17 +1,14 @@
 -- What differs between two rows is within its limits where the new row is. Assumes nothing.
-use Rattle.std.proofs.Common.{◌≡◌, ℕ, Bool, true, false, cond, eqb, leb, Some, None, refl}
+use Rattle.std.proofs.Common.{◌≡◌, ℕ, true, leb, refl}
 use Rattle.std.proofs.lemmas.Bool.{and_parts, and_from}
 use Rattle.door.specs.declared.shown.ReportRow.{ReportRow}
 use Rattle.report.specs.Fields.{if_new, fields_between}
 use Rattle.mirror.specs.Record.{in_range, fields_in_range}
 use Rattle.mirror.specs.Ranges.{row_in_range}
-
-test_range : (b : Bool) (n most : ℕ) → leb n most ≡ true → in_range (cond b None (Some n)) most ≡ true
-test_range true n most h = refl
-test_range false n most h = h
+use Rattle.mirror.proofs.Changed.{of_new}
 
 new_range : (o n most : ℕ) → leb n most ≡ true → in_range (if_new o n) most ≡ true
-new_range o n most h = test_range (eqb o n) n most h
+new_range o n most h = of_new (λ v. in_range v most ≡ true) o n (λ e. refl) h
 
 pub between_in_range : (old new : ReportRow) → row_in_range new ≡ true → fields_in_range (fields_between old new) ≡ true
 unfolding row_in_range fields_in_range

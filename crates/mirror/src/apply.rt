@@ -27,13 +27,9 @@ pub fn apply(mirror: &mut [ReportRow], record: &Record) -> Result<(), Refusal>
     ensures value { result ≡ apply_answer (length mirror.old) «record».now }
     ensures after { mirror.new ≡ mirror_after mirror.old «record».now }
 {
-    // A test and an index: with `get_mut` the proof of what the mirror is after it did not close, tried with a guard and in both arms.
+    // A test and an index: with `get_mut` what the mirror is after the call was not proved.
     if record.door >= mirror.len() || !are_within(&record.fields) {
-        return Err(Refusal {
-            cause: Cause::BadRecord,
-            layer: Layer::Records,
-            place: record.offset,
-        });
+        return Err(Refusal::of(Layer::Records, Cause::BadRecord, record.offset));
     }
     mirror[record.door] = merged(mirror[record.door], &record.fields);
     Ok(())

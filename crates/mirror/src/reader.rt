@@ -1,6 +1,5 @@
 ghost use Rattle.std.specs.Prelude.{◌≡◌, ◌≤◌, length, drop};
 ghost use Rattle.std.specs.Option.{unwrap_or};
-ghost use Rattle.board.specs.declared.refusal.Layer.TheVariants.{Records};
 ghost use Rattle.mirror.specs.Reading.{byte_answer, place_after_byte, field_width, fields_size, field_at, fields_read, next_answer, place_after};
 
 use crate::record::{Record, are_within};
@@ -14,7 +13,8 @@ pub struct Place {
     pub at: usize,
 }
 
-/// A guard that puts the place back to where a record began, unless it was disarmed.
+/// A guard that puts the place back to where a record began, unless `back_to` is none.
+// A record is refused in four places: dropped, the guard puts the place back in each of them.
 struct Rewind<'a> {
     place: &'a mut Place,
     back_to: Option<usize>,
@@ -34,23 +34,13 @@ impl Drop for Rewind<'_> {
     }
 }
 
-fn refused(cause: Cause, offset: usize) -> Refusal
-    ensures { result ≡ record { cause = cause; layer = Records; place = offset } }
-{
-    Refusal {
-        cause,
-        layer: Layer::Records,
-        place: offset,
-    }
-}
-
 fn read_byte(offset: usize, bytes: &[u8], place: &mut Place) -> Result<u8, Refusal>
     ensures value { result ≡ byte_answer offset bytes.now place.old.at }
     ensures after { place.new ≡ place_after_byte bytes.now place.old }
 {
     let byte = bytes
         .get(place.at)
-        .ok_or(refused(Cause::RecordCut, offset))?;
+        .ok_or(Refusal::of(Layer::Records, Cause::RecordCut, offset))?;
     place.at += 1;
     Ok(*byte)
 }
@@ -173,12 +163,12 @@ impl<'a> Reader<'a> {
         let rest = &bytes[mark.place.at..];
         let size = size_of(map);
         if rest.len() < size {
-            return Err(refused(Cause::RecordCut, start));
+            return Err(Refusal::of(Layer::Records, Cause::RecordCut, start));
         }
         let fields = FieldReader { map, rest }.fields();
         mark.place.at += size;
         if map == 0 || usize::from(door) >= rows || !are_within(&fields) {
-            return Err(refused(Cause::BadRecord, start));
+            return Err(Refusal::of(Layer::Records, Cause::BadRecord, start));
         }
         mark.back_to = None;
         Ok(Some(Record {

@@ -26,6 +26,7 @@ fn is_within<V: PartialOrd + Copy>(value: Option<V>, most: V) -> bool
 pub(crate) fn are_within(fields: &Fields) -> bool
     ensures { result ≡ fields_in_range fields.now }
 {
+    // Each limit stands beside its field: a table of them would hold values of two types.
     is_within(fields.present_value, 3)
         && is_within(fields.status_flags, 15)
         && is_within(fields.door_alarm_state, 8)

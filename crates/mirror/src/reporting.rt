@@ -8,6 +8,7 @@ use door::shown::ReportRow;
 use report::write::write_report;
 
 /// Writes the report of the rows that are not as last reported.
+// A function of its own, so that a wrong call of the writer is refused here and not in the proof of what `report_to_mirror` says of the way back.
 fn write_changes(
     last: &[ReportRow],
     rows: &[ReportRow],

@@ -1,10 +1,10 @@
 -- Bytes written as hex digits. Assumes nothing.
-use Rattle.std.specs.Prelude.{ℕ, ◌+◌, ◌-◌, ◌*◌, ◌/◌, ◌%◌, Bool, cond, ◌&&◌, List, [], ◌∷◌, length, is_some, Some, None, Ok, Err, vec_items, Option, Result, Vec, ◌==◌, nat_le, nat_lt, codes}
+use Rattle.std.specs.Prelude.{ℕ, ◌+◌, ◌-◌, ◌*◌, ◌/◌, ◌%◌, Bool, cond, ◌&&◌, List, [], ◌∷◌, length, is_some, Some, None, Ok, Err, vec_items, Option, Result, Vec, ◌==◌, nat_le, nat_lt, codes, ⊤}
 use Rattle.std.specs.Option.{unwrap_or}
 use Rattle.std.specs.List.{list_all}
 use Rattle.std.specs.Str.{bytes_eq}
 use Rattle.numeral.specs.declared.hex.HexFault.{HexFault}
-use Rattle.numeral.specs.declared.hex.HexFault.TheVariants.{NotHex, OddDigits}
+use Rattle.numeral.specs.declared.hex.HexFault.TheVariants.{NotHex, OddDigits, OutOfMemory}
 
 -- `0` to `9`, `a` to `f` and `A` to `F`
 abbrev pub hex_digit : ℕ → Option ℕ
@@ -38,6 +38,12 @@ hex_answer bs =
 abbrev pub bytes_read : {Z : Type 0} → Result (Vec ℕ Z) HexFault → Result (List ℕ) HexFault
 bytes_read (Ok v) = Ok (vec_items v)
 bytes_read (Err e) = Err e
+
+-- no fault of the word: the bytes found no room
+abbrev pub IsWantOfMemory : HexFault → Type 0
+IsWantOfMemory NotHex = ⊥
+IsWantOfMemory OddDigits = ⊥
+IsWantOfMemory (OutOfMemory e) = ⊤
 
 -- the digit for a number below 16, in lower case
 abbrev pub hex_char : ℕ → ℕ

@@ -1,6 +1,6 @@
 //! Bytes written as hex digits, two for each.
-ghost use Rattle.std.specs.Prelude.{◌≡◌, ◌<◌, ◌⊎◌, [], ◌∷◌, ◌++◌, IfOk, IsErrOf, string_bytes, OnOk};
-ghost use Rattle.numeral.specs.Hex.{hex_digit, hex_value, all_hex, hex_pairs, hex_answer, bytes_read, hex_char, hex_text};
+ghost use Rattle.std.specs.Prelude.{◌≡◌, ◌<◌, ◌⊎◌, [], ◌∷◌, ◌++◌, IfOk, IsErrAnd, string_bytes, OnOk};
+ghost use Rattle.numeral.specs.Hex.{hex_digit, hex_value, all_hex, hex_pairs, hex_answer, bytes_read, IsWantOfMemory, hex_char, hex_text};
 ghost use Rattle.numeral.specs.declared.hex.HexFault.TheVariants.{OutOfMemory};
 
 use std::alloc::{AllocError, Global};
@@ -13,20 +13,20 @@ pub enum HexFault {
     /// One digit has no second.
     OddDigits,
     /// The bytes find no room.
-    OutOfMemory,
+    OutOfMemory(AllocError),
 }
 
 impl From<AllocError> for HexFault {
-    ghost from_gives = { λ _ fault. fault ≡ OutOfMemory };
+    ghost from_gives = { λ error fault. fault ≡ OutOfMemory error };
 
-    fn from(_error: AllocError) -> HexFault {
-        HexFault::OutOfMemory
+    fn from(error: AllocError) -> HexFault {
+        HexFault::OutOfMemory(error)
     }
 }
 
 /// The bytes that `word` writes; a `-` alone writes none.
 pub fn hex_bytes(heap: Global, word: &[u8]) -> Result<Vec<u8>, HexFault>
-    ensures { IsErrOf result HexFault.OutOfMemory ⊎ (bytes_read result ≡ hex_answer word.now) }
+    ensures { IsErrAnd result IsWantOfMemory ⊎ (bytes_read result ≡ hex_answer word.now) }
 {
     if word == b"-".as_slice() {
         return Ok(Vec::new(heap));

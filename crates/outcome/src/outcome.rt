@@ -10,11 +10,6 @@ pub fn outcome_text(heap: Global, outcome: Result<(), Refusal>) -> Result<String
 {
     match outcome {
         Ok(()) => String::from_str(heap, "ok"),
-        Err(refusal) => {
-            let number = refusal.cause.number();
-            let layer = refusal.layer.number();
-            let place = refusal.place;
-            format!(in heap; "refused {number} layer {layer} place {place}")
-        }
+        Err(refusal) => format!(in heap; "{refusal}"),
     }
 }

@@ -18,6 +18,7 @@ use Rattle.history.specs.Views.{View, door_driven, drives_door, with_row, with_n
 use Rattle.history.specs.Ticks.{raised}
 use Rattle.history.specs.Kept.{kept, all_kept, MadeKept, Same}
 use Rattle.history.proofs.Rows.{kept_at}
+use Rattle.history.proofs.Ticks.{doors_by}
 use Rattle.history.proofs.DoorCalls.{stays_kept}
 
 -- an element of a table is one of its part
@@ -28,13 +29,8 @@ of_part n xs i d e l k = get_or_default xs i d e k ∙ sym (get_or-take n xs i e
 abbrev pub parts : Held → ℕ → List Row → Sounder → List Waiting → ℕ → List ReportRow → ℕ → ℕ → View
 parts h n rs s ws next qs number tenth = record { board = h; rows = take n rs; sounder = s; notices = record { waiting = take n ws; next = next }; reported = take n qs; number = number; tenth = tenth }
 
-module _ (h : Held) (i : ℕ) (r : Row) where
-  doors_by : (b : Bool) → (cond b h (with_output h i r.commanded.output)).doors ≡ h.doors
-  doors_by true = refl
-  doors_by false = refl
-
-  pub driven_doors : (door_driven h i r).doors ≡ h.doors
-  driven_doors = doors_by r.out_of_service
+driven_doors : (h : Held) (i : ℕ) (r : Row) → (door_driven h i r).doors ≡ h.doors
+driven_doors h i r = doors_by r.out_of_service h i r.commanded.output
 
 module _ {M : Type 0} (held : M → Held) (driven : M → ℕ → Output → M) (m : M) (i : ℕ) (r : Row) (law : held (driven m i r.commanded.output) ≡ with_output (held m) i r.commanded.output) where
   held_by : (b : Bool) → held (cond b m (driven m i r.commanded.output)) ≡ cond b (held m) (with_output (held m) i r.commanded.output)

@@ -1,16 +1,19 @@
 -- How long the bytes of a record are. Assumes nothing.
-use Rattle.std.proofs.Common.{Iter, ◌≡◌, ℕ, zero, suc, ◌+◌, ◌-◌, ◌<◌, ◌≤◌, Bool, true, false, cond, eqb, List, [], ◌∷◌, ◌++◌, length, get_or, take, Some, None, Option, sym, refl, ap, ◌∙◌, arith, length-append}
-use Rattle.std.specs.List.{range_with_len, flat_map, zip, sum_by}
+use Rattle.std.proofs.Common.{Iter, Bor, ◌≡◌, ℕ, zero, suc, ◌+◌, ◌-◌, ◌<◌, ◌≤◌, Bool, true, false, cond, eqb, List, [], ◌++◌, length, get_or, take, Some, None, Option, sym, refl, ap, ◌∙◌, arith, length-append}
+use Rattle.std.specs.List.{range_with_len, zip, sum_by}
 use Rattle.std.proofs.lemmas.List.Sums.{sum_by_more}
 use Rattle.std.proofs.lemmas.Slice.Zip.{length-zip, get_or-zip}
-use Rattle.std.proofs.lemmas.List.{flat_map_more, map-id, get_or_default, take_all}
-use Rattle.std.proofs.lemmas.List.FromFn.{map-range_with_len_more, length-range_with_len, get_or-range_with_len}
+use Rattle.std.proofs.lemmas.List.{get_or_default, take_all}
+use Rattle.std.proofs.lemmas.List.FromFn.{length-range_with_len, get_or-range_with_len}
 use Rattle.std.specs.declared.iter.Zip.{Zip}
 use Rattle.std.specs.declared.ops.Range.{Range}
 use Rattle.std.specs.Iterator.Adapters.{zip_first, zip_second}
 use Rattle.std.specs.Slice.Iter.{iter_rest}
 use Rattle.std.proofs.iter.Yields.{fronts, nat_range_steps}
 use Rattle.std.proofs.lemmas.Iterator.{YieldsList, zips, YieldsList-from_range, YieldsList-from_slice, YieldsList-from_zip}
+use Rattle.std.proofs.lemmas.Iterator.Consumers.{YieldsList-turn}
+use Rattle.std.specs.Iterator.{Yields}
+use Rattle.board.proofs.Filled.{one_piece_more}
 use Rattle.door.specs.declared.shown.ReportRow.{ReportRow}
 use Rattle.report.specs.declared.fields.Fields.{Fields}
 use Rattle.report.specs.Fields.{fields_between, width, record_size, map_of, one_byte, four_bytes, field_bytes}
@@ -37,9 +40,6 @@ door_length false d f = length-encoded d f
 pub length_door : (d : ℕ) (f : Fields) → length (door_bytes d f) ≡ door_size f
 length_door d f = door_length (eqb (map_of f) 0) d f
 
-counting_more : (n : ℕ) → range_with_len 0 (n + 1) ≡ range_with_len 0 n ++ (n ∷ [])
-counting_more n = sym (map-id (range_with_len 0 (n + 1))) ∙ map-range_with_len_more (λ x. x) 0 n n (omega arith) ∙ ap (λ l. l ++ (n ∷ [])) (map-id (range_with_len 0 n))
-
 -- a door of a report, with its row last reported and its row
 abbrev pub Told : Type 0
 Told = ℕ × (ReportRow × ReportRow)
@@ -51,7 +51,7 @@ module _ (last rows : List ReportRow) where
   -- one door more
   pub below_more : (n : ℕ) → report_below last rows (n + 1) ≡ report_below last rows n ++ bytes_of_door last rows n
   unfolding report_below
-  below_more n = ap (flat_map (bytes_of_door last rows)) (counting_more n) ∙ sym (flat_map_more (bytes_of_door last rows) [] (range_with_len 0 n) n)
+  below_more n = one_piece_more (bytes_of_door last rows) n
 
   pub length_more : (n : ℕ) → length (report_below last rows (n + 1)) ≡ length (report_below last rows n) + door_size (door_fields last rows n)
   length_more n =
@@ -85,6 +85,10 @@ module _ (last rows : List ReportRow) where
   abbrev pub told : List Told
   told = zip (range_with_len 0 64) (zip last rows)
 
+  -- an iterator over them
+  abbrev pub Doors : Zip (Range ℕ) (Zip (Iter ReportRow) (Iter ReportRow)) → Type 0
+  Doors s = (zip_first s ≡ record { start = 0; end = 64 }) × (iter_rest (zip_first (zip_second s)) ≡ last) × (iter_rest (zip_second (zip_second s)) ≡ rows)
+
   -- the iterator over them yields them
   pub yields_told : {s : Zip (Range ℕ) (Zip (Iter ReportRow) (Iter ReportRow))} → zip_first s ≡ record { start = 0; end = 64 } → iter_rest (zip_first (zip_second s)) ≡ last → iter_rest (zip_second (zip_second s)) ≡ rows → YieldsList (zips nat_range_steps (zips fronts fronts)) (λ x. (x.0, (x.1.0.now, x.1.1.now))) s told
   yields_told d l r = YieldsList-from_zip (YieldsList-from_range 0 64 64 d refl) (YieldsList-from_zip (YieldsList-from_slice last l) (YieldsList-from_slice rows r))
@@ -108,6 +112,18 @@ module _ (last rows : List ReportRow) where
       let room = fits n (doors_in last rows) len (rw length_told at h) l in
       let size : size_told x ≡ door_size (door_fields last rows n) = ap door_size (is_told n x h e).1 in
       omega arith
+
+  -- a step of that iterator that gives a door, behind n others: the next door, and room for its record
+  pub record TurnOf (n : ℕ) (x : Told) (len : ℕ) : Type 0 where
+    pub door : x.0 ≡ n
+    pub fields : fields_between x.1.0 x.1.1 ≡ door_fields last rows n
+    pub room : length (report_below last rows n) + size_told x ≤ len
+
+  pub turn_told : (s t u : Zip (Range ℕ) (Zip (Iter ReportRow) (Iter ReportRow))) {r : Option (ℕ × (Bor ReportRow × Bor ReportRow))} {x : ℕ × (Bor ReportRow × Bor ReportRow)} (len : ℕ) → Doors s → (xs : List (ℕ × (Bor ReportRow × Bor ReportRow))) → Yields (zips nat_range_steps (zips fronts fronts)) s xs t → r ≡ Some x → zips nat_range_steps (zips fronts fronts) t r u → length (report_bytes last rows) ≤ len → TurnOf (length xs) (x.0, (x.1.0.now, x.1.1.now)) len
+  turn_told s t u {r} {x} len d xs y e k l =
+      let turn = YieldsList-turn (yields_told d.0 d.1 d.2) xs t y r u x e k in
+      let here = is_told (length xs) _ turn.0 turn.1 in
+      record { door = here.0; fields = here.1; room = room_told (length xs) len _ turn.0 turn.1 l }
 
   sizes_below : (n : ℕ) → n ≤ length told → sum_by size_told (take n told) ≡ length (report_below last rows n)
   sizes_below zero l = sym (ap length below_none)

@@ -35,6 +35,7 @@ fn write_record(rest: &mut [u8], door: u8, fields: &Fields) -> usize
 {
     rest[0] = fields.map();
     rest[1] = door;
+    // Each field begins where the one before ends: a loop over eight fields of two types is no plainer.
     let a = put(rest, 2, fields.present_value);
     let b = put(rest, a, fields.status_flags);
     let c = put(rest, b, fields.door_alarm_state);
@@ -100,11 +101,7 @@ pub fn write_report(
     ensures after { buffer.new ≡ report_buffer last.now rows.now buffer.old }
 {
     if report_size(last, rows) > buffer.len() {
-        return Err(Refusal {
-            cause: Cause::ReportTooLong,
-            layer: Layer::Panel,
-            place: 0,
-        });
+        return Err(Refusal::of(Layer::Panel, Cause::ReportTooLong, 0));
     }
     let mut at = 0;
     for (door, (last, row)) in doors_of(last, rows) {

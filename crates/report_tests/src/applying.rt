@@ -1,4 +1,4 @@
-use crate::fixture::{EDGES, LEAST, MADE, MOST, NO_FIELD, failed, is_refusal};
+use crate::fixture::{EDGES, LEAST, MADE, MOST, NO_FIELD, failed, is_refused};
 use door::shown::ReportRow;
 use mirror::apply::apply;
 use mirror::record::Record;
@@ -13,10 +13,7 @@ fn accepts(mirror: &mut [ReportRow], record: &Record) -> Result<(), Fail> {
 // A mirror of these three rows refuses the record as a bad one, and each row stays.
 fn is_bad(rt: &impl Abort, rows: &[ReportRow; 3], record: &Record) -> Result<(), Fail> {
     let mut mirror = *rows;
-    match apply(&mut mirror, record) {
-        Ok(()) => return Err(Fail::new("no refusal")),
-        Err(refusal) => is_refusal(rt, refusal, (7, 3, record.offset))?,
-    }
+    is_refused(rt, apply(&mut mirror, record), (7, 3, record.offset))?;
     assert!(rt; mirror == *rows);
     Ok(())
 }
@@ -63,6 +60,7 @@ fn fields_change_together(rt: HostRuntime) -> Result<(), Fail> {
 fn a_field_past_its_limit_changes_nothing(rt: HostRuntime) -> Result<(), Fail> {
     let rows = [MADE, LEAST, MOST];
     for edge in EDGES.iter() {
+        // The door's number is the input.
         for door in 0..3 {
             is_bad(&rt, &rows, &record(7, door, edge.past_fields))?;
         }
@@ -90,6 +88,7 @@ fn a_door_past_the_mirror_changes_nothing(rt: HostRuntime) -> Result<(), Fail> {
 #[test]
 fn a_record_without_a_field_changes_nothing(rt: HostRuntime) -> Result<(), Fail> {
     let rows = [MADE, LEAST, MOST];
+    // The door's number is the input.
     for door in 0..3 {
         let mut mirror = rows;
         accepts(&mut mirror, &record(2, door, NO_FIELD))?;
@@ -99,10 +98,7 @@ fn a_record_without_a_field_changes_nothing(rt: HostRuntime) -> Result<(), Fail>
 }
 
 fn is_bad_for_none(rt: &impl Abort, record: &Record) -> Result<(), Fail> {
-    match apply(&mut [], record) {
-        Ok(()) => Err(Fail::new("no refusal")),
-        Err(refusal) => is_refusal(rt, refusal, (7, 3, record.offset)),
-    }
+    is_refused(rt, apply(&mut [], record), (7, 3, record.offset))
 }
 
 #[test]

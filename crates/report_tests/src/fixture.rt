@@ -208,12 +208,13 @@ pub(crate) fn failed(refusal: Refusal) -> Fail {
     Fail::new(refusal.cause.number())
 }
 
-// The numbers of the cause and of the layer, and the place.
-pub(crate) fn is_refusal(
+// A call is refused, with these numbers of the cause and of the layer, and that place.
+pub(crate) fn is_refused<T: Drop>(
     rt: &impl Abort,
-    refusal: Refusal,
+    outcome: Result<T, Refusal>,
     wanted: (u8, u8, usize),
 ) -> Result<(), Fail> {
+    let refusal = outcome.err().ok_or_else(|| Fail::new("no refusal"))?;
     assert_eq!(rt;
         (
             refusal.cause.number(),
@@ -233,10 +234,7 @@ pub(crate) fn refuses(
     offset: usize,
 ) -> Result<(), Fail> {
     for _ in 0..2 {
-        match reader.next() {
-            Ok(_) => return Err(Fail::new("no refusal")),
-            Err(refusal) => is_refusal(rt, refusal, (cause, 3, offset))?,
-        }
+        is_refused(rt, reader.next(), (cause, 3, offset))?;
     }
     Ok(())
 }

@@ -71,6 +71,7 @@ fn released_tenths_are_four_bytes(rt: HostRuntime) -> Result<(), Fail> {
 
 // The bytes end at each place in turn.
 fn is_cut_anywhere(rt: &impl Abort, bytes: &[u8], place: usize) -> Result<(), Fail> {
+    // Where the bytes end is the input.
     for end in 0..bytes.len() {
         let mut reader = Reader::new(&bytes[0..end], place, 3);
         if end <= place {

@@ -1,4 +1,4 @@
-use crate::fixture::{EDGES, FILL, LEAST, MADE, MOST, failed, is_refusal};
+use crate::fixture::{EDGES, FILL, LEAST, MADE, MOST, failed, is_refused};
 use door::shown::ReportRow;
 use report::write::write_report;
 use std::process::Abort;
@@ -24,10 +24,7 @@ fn is_too_long(
     buffer: &mut [u8],
 ) -> Result<(), Fail> {
     buffer.fill(FILL);
-    match write_report(last, rows, buffer) {
-        Ok(_) => return Err(Fail::new("no refusal")),
-        Err(refusal) => is_refusal(rt, refusal, (13, 2, 0))?,
-    }
+    is_refused(rt, write_report(last, rows, buffer), (13, 2, 0))?;
     assert!(rt; buffer.iter().all(|byte| *byte == FILL));
     Ok(())
 }

@@ -3,6 +3,7 @@ ghost use Rattle.slots.specs.Priority.{present, slot_answer, Below16};
 
 use board::refusal::Cause;
 
+// A loop and no `find_map`: std tells of that call by call, and no lemma of it turns the calls into a rule over a list.
 /// The priority rule, for every kind of commanded value: the value in the lowest-numbered filled slot, else the default.
 pub fn present_value<T: Copy>(slots: &[Option<T>], default: T) -> T
     ensures { result ≡ present slots.now default }

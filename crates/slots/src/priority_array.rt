@@ -6,6 +6,7 @@ use crate::priority::present_value;
 use std::alloc::AllocError;
 
 /// The sixteen slots of what can be commanded, that of priority p at place p - 1; an empty one is NULL.
+// An array of sixteen, with no length beside it: there are sixteen priorities, filled or not.
 #[derive(Copy)]
 pub struct PriorityArray<T> {
     pub at: [Option<T>; 16],

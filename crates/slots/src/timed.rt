@@ -5,7 +5,7 @@ use crate::priority_array::PriorityArray;
 use crate::value::DoorValue;
 
 /// A value that stands in a slot of a door. A pulse has time left, in ticks; LOCK and UNLOCK have none, written 0.
-// No enum of lasting values and pulses: what rules is read off `value` alone, for every kind of it.
+// No enum with the time inside its pulses: each rule that reads the value would have to take it apart first.
 #[derive(Clone, Copy)]
 pub struct Timed {
     pub value: DoorValue,
@@ -15,10 +15,7 @@ pub struct Timed {
 fn is_timed(slot: Option<Timed>) -> bool
     ensures { result ≡ timed slot }
 {
-    match slot {
-        None => true,
-        Some(standing) => !standing.value.is_pulse() || standing.left > 0,
-    }
+    slot.is_none_or(|standing| !standing.value.is_pulse() || standing.left > 0)
 }
 
 fn fall(slot: Option<Timed>) -> Option<Timed>
@@ -61,7 +58,7 @@ impl PriorityArray<Timed> {
         ensures { result.at ≡ map fallen self.at }
     {
         PriorityArray {
-            at: self.at.map(|slot| fall(slot)),
+            at: self.at.map(fall),
         }
     }
 }

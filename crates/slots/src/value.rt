@@ -28,6 +28,7 @@ impl DoorValue {
         self == DoorValue::Lock
     }
 
+    // Two patterns: `==` compares with one value alone.
     /// A value that ends by itself.
     pub fn is_pulse(self) -> bool
         ensures { result ≡ is_pulse self }
@@ -36,6 +37,17 @@ impl DoorValue {
             self,
             DoorValue::PulseUnlock | DoorValue::ExtendedPulseUnlock
         )
+    }
+
+    pub fn name(self) -> &'static str
+        ensures { result.now ≡ door_value_name self }
+    {
+        match self {
+            DoorValue::Lock => "LOCK",
+            DoorValue::Unlock => "UNLOCK",
+            DoorValue::PulseUnlock => "PULSE_UNLOCK",
+            DoorValue::ExtendedPulseUnlock => "EXTENDED_PULSE_UNLOCK",
+        }
     }
 }
 
@@ -59,12 +71,7 @@ impl fmt::Display for DoorValue {
     ghost output = { λ value. Some (door_value_name value) };
 
     fn fmt<W: fmt::Write>(&self, f: &mut fmt::Formatter<W>) -> fmt::Result {
-        f.write_str(match self {
-            DoorValue::Lock => "LOCK",
-            DoorValue::Unlock => "UNLOCK",
-            DoorValue::PulseUnlock => "PULSE_UNLOCK",
-            DoorValue::ExtendedPulseUnlock => "EXTENDED_PULSE_UNLOCK",
-        })
+        f.write_str(DoorValue::name(*self))
     }
 }
 
@@ -72,5 +79,6 @@ impl fmt::Display for DoorValue {
 pub fn value_of<V: TryFrom<u64, Error = Cause>>(number: Option<u64>) -> Result<Option<V>, Cause>
     ensures { ValueAnswer V.try_from_gives number result }
 {
+    // A closure: the borrow checker takes no function of V by its name.
     number.map(|n| V::try_from(n)).transpose()
 }

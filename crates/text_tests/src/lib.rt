@@ -144,10 +144,8 @@ mod tests {
             ("0g", HexFault::NotHex),
             ("x", HexFault::NotHex),
         ] {
-            match hex_bytes(rt.alloc(), word.as_bytes()) {
-                Ok(_) => return Err(Fail::new(word)),
-                Err(fault) => assert!(rt; fault == want, "{}", word),
-            }
+            let outcome = hex_bytes(rt.alloc(), word.as_bytes());
+            assert!(rt; outcome.err() == Some(want), "{}", word);
         }
         Ok(())
     }

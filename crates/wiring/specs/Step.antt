@@ -65,11 +65,7 @@ said (step.Call (call.Drive d)) = says_drive d
 said (step.Call (call.Tick v)) = says_tick (vec_items v)
 said (step.Call call.Ask) = says_ask
 
-abbrev pub step_said : Result Step WordFault → Result Said WordFault
-step_said (Ok s) = Ok (said s)
-step_said (Err e) = Err e
-
-abbrev pub answer_said : Result (Option Step) WordFault → Result (Option Said) WordFault
-answer_said (Ok None) = Ok None
-answer_said (Ok (Some s)) = Ok (Some (said s))
-answer_said (Err e) = Err e
+-- the same where a line may have no word
+abbrev pub step_said : Option Step → Option Said
+step_said None = None
+step_said (Some s) = Some (said s)

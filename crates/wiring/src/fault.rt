@@ -1,4 +1,4 @@
-ghost use Rattle.std.specs.Prelude.{Some};
+ghost use Rattle.std.specs.Prelude.{◌≡◌, Some};
 ghost use Rattle.wiring.specs.Fault.{fault_reason};
 
 use line_words::fault::WordFault;
@@ -12,13 +12,21 @@ pub enum Fault {
     NoBoard,
 }
 
+impl Fault {
+    pub fn reason(self) -> &'static str
+        ensures { result.now ≡ fault_reason self }
+    {
+        match self {
+            Fault::Word(fault) => fault.reason(),
+            Fault::NoBoard => "no board line before it",
+        }
+    }
+}
+
 impl fmt::Display for Fault {
     ghost output = { λ fault. Some (fault_reason fault) };
 
     fn fmt<W: fmt::Write>(&self, f: &mut fmt::Formatter<W>) -> fmt::Result {
-        match self {
-            Fault::Word(fault) => fault.fmt(f),
-            Fault::NoBoard => f.write_str("no board line before it"),
-        }
+        f.write_str(Fault::reason(*self))
     }
 }

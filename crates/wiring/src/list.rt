@@ -5,7 +5,7 @@ ghost use Rattle.wiring.specs.List.{is_board, at_line, steps_in, faults_in, star
 
 use crate::fault::Fault;
 use crate::step::{Step, read_step};
-use line_words::fault::WordFault;
+use line_words::fault::ReadFault;
 use std::alloc::{AllocError, Global};
 use std::fmt;
 use text::lines::Lines;
@@ -46,7 +46,7 @@ fn has_board(started: bool, step: &Step) -> bool
 #[derive(Drop)]
 struct Reading {
     list: WiringList,
-    // Whether a board may stand before the next line.
+    // Whether a board may stand before the next line. The steps do not tell: a faulty line may have been meant for one.
     started: bool,
 }
 
@@ -85,8 +85,9 @@ impl Reading {
         match read_step(heap, line) {
             Ok(None) => Ok(()),
             Ok(Some(step)) => self.add_step(number, step),
-            Err(WordFault::OutOfMemory) => Err(AllocError),
-            Err(fault) => {
+            // Want of memory is no fault of the line: the list is not read at all.
+            Err(ReadFault::OutOfMemory(error)) => Err(error),
+            Err(ReadFault::Word(fault)) => {
                 self.started = true;
                 self.add_fault(number, Fault::Word(fault))
             }

@@ -1,12 +1,12 @@
-ghost use Rattle.std.specs.Prelude.{◌≡◌, ◌⊎◌, IsErrOf};
-ghost use Rattle.line_words.specs.Read.{rest, bytes_said};
+ghost use Rattle.std.specs.Prelude.{◌≡◌, vec_items};
+ghost use Rattle.line_words.specs.Read.{rest, Reads};
 ghost use Rattle.wiring.specs.Step.{output_said, first_output, drive_says, board_says, tick_says, first_says, line_says};
-ghost use Rattle.wiring.specs.Step.{step_said, answer_said};
+ghost use Rattle.wiring.specs.Step.{said, step_said};
 
 use board::status::Output;
 use board_words::wanted::{Wanted, read_wanted};
-use line_words::fault::WordFault;
-use line_words::read::{read_bytes, read_end, read_number, spells};
+use line_words::fault::{ReadFault, WordFault};
+use line_words::read::{read_bytes, read_end, read_number};
 use std::alloc::Global;
 use text::words::Words;
 
@@ -34,13 +34,11 @@ pub enum Step {
 fn output_of(word: &[u8]) -> Result<Output, WordFault>
     ensures { result ≡ output_said word.now }
 {
-    if spells(word, b"held") {
-        return Ok(Output::Held);
+    match word {
+        b"held" => Ok(Output::Held),
+        b"released" => Ok(Output::Released),
+        _ => Err(WordFault::Unknown),
     }
-    if spells(word, b"released") {
-        return Ok(Output::Released);
-    }
-    Err(WordFault::Unknown)
 }
 
 /// The state that an output is driven to.
@@ -68,8 +66,8 @@ fn read_board(words: &mut Words<'_>) -> Result<Wanted, WordFault>
     Ok(wanted)
 }
 
-fn read_tick(heap: Global, words: &mut Words<'_>) -> Result<Vec<u8>, WordFault>
-    ensures { IsErrOf result WordFault.OutOfMemory ⊎ (bytes_said result ≡ tick_says words.old) }
+fn read_tick(heap: Global, words: &mut Words<'_>) -> Result<Vec<u8>, ReadFault>
+    ensures { Reads vec_items result (tick_says words.old) }
 {
     let bytes = read_bytes(heap, words)?;
     read_end(words)?;
@@ -77,26 +75,24 @@ fn read_tick(heap: Global, words: &mut Words<'_>) -> Result<Vec<u8>, WordFault>
 }
 
 /// The step that `first` and the words after it ask for.
-fn step_of(heap: Global, first: &[u8], words: &mut Words<'_>) -> Result<Step, WordFault>
-    ensures { IsErrOf result WordFault.OutOfMemory ⊎ (step_said result ≡ first_says first.now words.old) }
+fn step_of(heap: Global, first: &[u8], words: &mut Words<'_>) -> Result<Step, ReadFault>
+    ensures { Reads said result (first_says first.now words.old) }
 {
-    if spells(first, b"board") {
-        Ok(Step::Board(read_board(words)?))
-    } else if spells(first, b"drive") {
-        Ok(Step::Call(Call::Drive(read_drive(words)?)))
-    } else if spells(first, b"tick") {
-        Ok(Step::Call(Call::Tick(read_tick(heap, words)?)))
-    } else if spells(first, b"ask") {
-        read_end(words)?;
-        Ok(Step::Call(Call::Ask))
-    } else {
-        Err(WordFault::Unknown) // no line begins with another word
+    match first {
+        b"board" => Ok(Step::Board(read_board(words)?)),
+        b"drive" => Ok(Step::Call(Call::Drive(read_drive(words)?))),
+        b"tick" => Ok(Step::Call(Call::Tick(read_tick(heap, words)?))),
+        b"ask" => {
+            read_end(words)?;
+            Ok(Step::Call(Call::Ask))
+        }
+        _ => Err(ReadFault::Word(WordFault::Unknown)),
     }
 }
 
 /// What a line says, `None` where it has no word, or its fault.
-pub fn read_step(heap: Global, line: &[u8]) -> Result<Option<Step>, WordFault>
-    ensures { IsErrOf result WordFault.OutOfMemory ⊎ (answer_said result ≡ line_says line.now) }
+pub fn read_step(heap: Global, line: &[u8]) -> Result<Option<Step>, ReadFault>
+    ensures { Reads step_said result (line_says line.now) }
 {
     let mut words = Words::of(line);
     let Some(first) = words.next() else {

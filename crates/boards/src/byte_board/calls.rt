@@ -72,7 +72,7 @@ impl<W: DoorBytes> Board for ByteBoard<W> {
         if bytes.len() != self.width() {
             return Err(Refusal::wrong_tick_length(bytes.len()));
         }
-        // By number, since a rule finds a door's bytes by it.
+        // By number, as a rule and its definitions name a door's bytes: there is no slice of doors to go over.
         for door in 0..self.doors() {
             let input = Input {
                 contact: W::contact_of(bytes, door),

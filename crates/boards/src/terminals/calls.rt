@@ -81,7 +81,7 @@ impl Terminals {
         Ok(())
     }
 
-    /// What one door's contact and lock monitor now say.
+    /// From here on the door's contact and lock monitor say this.
     pub(crate) fn set_input(&mut self, door: usize, input: Input)
         requires { door < self.old.doors }
         ensures doors { self.new.doors ≡ self.old.doors }

@@ -10,7 +10,8 @@ use events::event::Transition;
 use slots::priority::slot_of;
 use slots::value::{DoorValue, value_of};
 
-// The conversion at door values: the contract of the generic one is a relation, and this one an equation.
+// The generic conversion at door values. Its own contract is a relation, from which the check does not find what a
+// command gives; from this equation it does.
 fn door_value_of(number: Option<u64>) -> Result<Option<DoorValue>, Cause>
     ensures { result ≡ value_answer number }
 {
@@ -100,6 +101,7 @@ impl Door {
         Some(Door { row })
     }
 
+    // A method and no `From`: it undoes `from_row`, and the two are read together.
     pub fn into_row(self) -> Row
         ensures { result ≡ self.row }
     {

@@ -3,7 +3,7 @@ ghost use Rattle.board.specs.declared.refusal.Cause.{Cause};
 ghost use Rattle.door.specs.declared.row.Row.{Row};
 ghost use Rattle.door.specs.Calls.{row_of};
 ghost use Rattle.history.specs.Views.{row_at, with_row, drives_door};
-ghost use Rattle.history.specs.DoorCalls.{refused_at, outcome, stored, stored_memory, call_answer, call_after, call_memory};
+ghost use Rattle.history.specs.DoorCalls.{outcome, stored, stored_memory, call_answer, call_after, call_memory};
 ghost use Rattle.history.specs.DoorCalls.{commanded, set_to, simulated, serviced, acknowledged};
 ghost use Rattle.history.specs.Kept.{kept, MadeKept};
 ghost use Rattle.panel.specs.Calls.{Makes, LeavesTenths};
@@ -15,16 +15,6 @@ use board::refusal::{Cause, Layer, Refusal};
 use door::door::Door;
 use door::row::Row;
 
-pub(crate) fn refused(place: usize, cause: Cause) -> Refusal
-    ensures { result ≡ refused_at place cause }
-{
-    Refusal {
-        cause,
-        layer: Layer::Panel,
-        place,
-    }
-}
-
 /// Drives the output of a door as its row says, in service.
 pub(crate) fn drive_door<B: Board>(board: &mut B, door: usize, row: &Row)
     requires { door < (B.held (B.memory board.old)).doors }
@@ -35,6 +25,7 @@ pub(crate) fn drive_door<B: Board>(board: &mut B, door: usize, row: &Row)
     }
 }
 
+// Private methods ask for a number below that of the board's doors: a type for such numbers would have to name the panel.
 impl<B: Board> Panel<B> {
     fn has_door(&self, door: usize) -> bool
         ensures { result ≡ nat_lt door (B.held (B.memory self.now.board)).doors }
@@ -75,7 +66,7 @@ impl<B: Board> Panel<B> {
         ensures after { view B.held B.memory self.new ≡ stored (view B.held B.memory self.old) door (row_of made) }
         ensures memory { B.memory self.new.board ≡ stored_memory B.driven (B.memory self.old.board) door (row_of made) }
     {
-        let changed = made.map_err(|cause| refused(door, cause))?;
+        let changed = made.map_err(|cause| Refusal::of(Layer::Panel, cause, door))?;
         self.put(door, changed.into_row());
         Ok(())
     }
@@ -94,7 +85,7 @@ impl<B: Board> Panel<B> {
         ensures memory { (f : Row → Result Row Cause) → Makes F.post call f → B.memory self.new.board ≡ call_memory B.driven (view B.held B.memory self.old) door (f (row_at (view B.held B.memory self.old) door)) (B.memory self.old.board) }
     {
         if !self.has_door(door) {
-            return Err(refused(door, Cause::NoSuchDoor));
+            return Err(Refusal::of(Layer::Panel, Cause::NoSuchDoor, door));
         }
         let made = call(self.door_at(door));
         self.finish(door, made)

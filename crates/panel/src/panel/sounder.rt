@@ -4,9 +4,8 @@ ghost use Rattle.history.specs.SounderCall.{sounder_output, with_sounder, writte
 ghost use Rattle.panel.specs.Look.{view};
 
 use crate::panel::Panel;
-use crate::panel::door_calls::refused;
 use board::board::Board;
-use board::refusal::Refusal;
+use board::refusal::{Layer, Refusal};
 use board::status::Output;
 use slots::sounder::{Sounder, SounderValue};
 
@@ -46,7 +45,7 @@ impl<B: Board> Panel<B> {
         let sounder = self
             .sounder
             .command(priority, value)
-            .map_err(|cause| refused(place, cause))?;
+            .map_err(|cause| Refusal::of(Layer::Panel, cause, place))?;
         self.put_sounder(sounder);
         Ok(())
     }

@@ -5,9 +5,8 @@ ghost use Rattle.history.specs.Ticks.{ticked_door, door_ticked, door_stepped, do
 ghost use Rattle.panel.specs.Look.{view};
 
 use crate::panel::Panel;
-use crate::panel::door_calls::refused;
 use board::board::Board;
-use board::refusal::{Cause, Refusal};
+use board::refusal::{Cause, Layer, Refusal};
 use door::door::Ticked;
 
 impl<B: Board> Panel<B> {
@@ -50,7 +49,7 @@ impl<B: Board> Panel<B> {
         ensures memory { B.memory self.new.board ≡ told_if (view B.held B.memory self.old) bytes.now (B.told (B.memory self.old.board) bytes.now) (B.memory self.old.board) }
     {
         if self.is_late(bytes) {
-            return Err(refused(0, Cause::LastTenth));
+            return Err(Refusal::of(Layer::Panel, Cause::LastTenth, 0));
         }
         self.board.tick(bytes)?;
         self.tenth += 1;

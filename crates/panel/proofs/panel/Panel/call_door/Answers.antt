@@ -15,7 +15,7 @@ returns-then-not-has_door g c =
     let d = c.args.door in
     let none = sym c.if-not-has_door.ensures in
     record {
-      value = λ f m. ap Err c.refused.ensures ∙ sym (no_answer v d (f (row_at v d)) none);
+      value = λ f m. ap Err c.of.ensures ∙ sym (no_answer v d (f (row_at v d)) none);
       after = λ f m. sym (no_after v d (f (row_at v d)) none);
       memory = λ f m. sym (no_memory v d (f (row_at v d)) none g.B.Board.driven (g.B.Board.memory c.args.self.now.board));
     }
