@@ -10,6 +10,7 @@ use steady::steady::Steady;
 fn is_new<B: Board>(rt: &impl Abort, board: &B, wished: usize, doors: usize, width: usize) {
     assert_eq!(rt; board.doors(), doors, "wished {wished}");
     assert_eq!(rt; board.width(), width, "wished {wished}");
+    // By number, as the trait `Board` asks for a door.
     for door in 0..doors {
         assert_eq!(rt; board.output(door), Ok(Output::Held), "wished {wished}");
         assert_eq!(rt;

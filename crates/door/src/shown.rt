@@ -34,6 +34,7 @@ pub struct StatusFlags {
 }
 
 /// What a report tells of a door, as numbers.
+// Numbers and no enumerations: a mirror has such rows too, by what bytes say, and a reader has to be able to refuse a number.
 #[derive(Clone, Copy, PartialEq, Eq)]
 pub struct ReportRow {
     pub present_value: u8,

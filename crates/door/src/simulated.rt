@@ -19,6 +19,7 @@ impl Simulated {
     pub(crate) fn of(item: u64, number: u64) -> Result<Simulated, Cause>
         ensures { result ≡ simulated_of item number }
     {
+        // Numbers of properties, as a call is given them: an enumeration of the three would only be matched on again.
         match item {
             226 => Ok(Simulated::Alarm(AlarmState::try_from(number)?)),
             231 => Ok(Simulated::Door(DoorStatus::try_from(number)?)),

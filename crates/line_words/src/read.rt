@@ -57,7 +57,9 @@ pub fn read_end(words: &mut Words<'_>) -> Result<(), WordFault>
     }
 }
 
-/// Whether `word` is `text`, byte for byte. A keyword among several is an arm of a `match`; this is the test for one alone.
+/// Whether `word` is `text`, byte for byte.
+// A function and not `==` at each place, since it says the same of a word and of an array of bytes; a keyword among several is an arm
+// of a `match`.
 pub fn spells(word: &[u8], text: &[u8]) -> bool
     ensures { result ≡ bytes_eq word.now text.now }
 {

@@ -15,10 +15,7 @@ pub struct Record {
 fn is_within<V: PartialOrd + Copy>(value: Option<V>, most: V) -> bool
     ensures { result ≡ is_at_most (partial_le V.partial_cmp) value most }
 {
-    match value {
-        Some(v) => v <= most,
-        None => true,
-    }
+    value.is_none_or(|v| v <= most)
 }
 
 /// Whether each field that is there is at most its limit.

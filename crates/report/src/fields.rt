@@ -4,7 +4,7 @@ ghost use Rattle.report.specs.Fields.{fields_between, bit_of, map_of, width, rec
 use crate::value::FieldValue;
 use door::shown::ReportRow;
 
-/// Of each of the eight fields of a row, a value or none.
+/// Of each of the eight fields of a row, a value or none. Numbers, as in a row: who applies them has to be able to refuse one.
 #[derive(Clone, Copy, PartialEq, Eq)]
 pub struct Fields {
     pub present_value: Option<u8>,

@@ -71,6 +71,7 @@ fn write_door(rest: &mut [u8], door: u8, last: &ReportRow, row: &ReportRow) -> u
 }
 
 /// The doors of a report, each with its row last reported and its row.
+// Two tables of the caller's, here and in what calls this: a struct of both would be made for the one call.
 fn doors_of<'a>(
     last: &'a [ReportRow],
     rows: &'a [ReportRow],

@@ -1,4 +1,4 @@
--- A text that has a piece for each number. Assumes nothing.
+-- A text that has a piece for each number: the lemma of board, under a name that `using` can say here. Assumes nothing.
 use Rattle.std.proofs.Common.{◌≡◌, ℕ, ◌+◌, List, ◌++◌}
 use Rattle.std.specs.List.{range_with_len, flat_map}
 use Rattle.board.proofs.Filled as filled

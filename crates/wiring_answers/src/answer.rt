@@ -31,7 +31,7 @@ fn asked_line<B: Board>(heap: Global, board: &B) -> Result<String, AllocError>
 {
     let mut out = String::new(heap);
     let doors = board.doors();
-    // By number, since a board is asked by number.
+    // By number, as the trait `Board` asks for a door.
     for door in 0..doors {
         push_door(board, door, &mut out)?;
     }

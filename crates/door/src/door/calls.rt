@@ -39,6 +39,7 @@ fn command_row(row: Row, priority: u64, value: Option<u64>) -> Result<Row, Cause
     Ok(Row { commanded, ..row }.settled(row.sensed.alarm_state))
 }
 
+// Item and number as a call is handed them: what the two say together is an `Item` or a `Simulated` only after the test.
 fn set_row(row: Row, item: u64, number: u64) -> Result<Row, Cause>
     ensures { result ≡ set_row_answer row item number }
 {
@@ -108,6 +109,8 @@ impl Door {
         let row: Row = self.row;
         row
     }
+
+    // Five calls of one shape, each with the equation of its own: one over a closure would say less.
 
     /// Writes a value, or NULL, at a priority.
     #[tactic(auto, using(crate::proofs::Legal::legal_command))]

@@ -9,6 +9,8 @@ use door_parts::sensed::Sensed;
 use events::event::{EventState, class_of};
 
 /// The count of released tenths after a tick that finds the output so.
+// That the last tenth is not reached stands at each private step of a tick: the door's own tick refuses there, and a type for such rows
+// would be made and taken apart in it alone.
 fn released_after(output: Output, released_tenths: u32) -> u32
     requires { released_tenths < 2000000000 }
     ensures { result ≡ released_after output released_tenths }
@@ -18,6 +20,8 @@ fn released_after(output: Output, released_tenths: u32) -> u32
         Output::Released => released_tenths + 1,
     }
 }
+
+// Contact and reading come as two, as a board is asked for them: a door knows no board.
 
 /// In service the states follow the board; then a door that was open under LOCK, and is open still, counts one more.
 fn sense(row: &Row, contact: DoorStatus, reading: LockStatus) -> Sensed

@@ -91,6 +91,8 @@ impl<B: Board> Panel<B> {
         self.finish(door, made)
     }
 
+    // Five calls of one shape, each with the equations of its own.
+
     /// Writes a value, or NULL, at a priority of a door.
     pub fn command(&mut self, door: usize, priority: u64, value: Option<u64>) -> Result<(), Refusal>
         ensures value { result ≡ call_answer (view B.held B.memory self.old) door (commanded (view B.held B.memory self.old) door priority value) }

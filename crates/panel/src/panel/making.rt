@@ -24,7 +24,7 @@ impl<B: Board> Panel<B> {
         ensures memory { B.memory result.board ≡ all_driven B.driven ((B.held (B.memory board)).doors + 1) (B.memory board) }
     {
         let mut board = board;
-        // By number, since a board is driven by number.
+        // By number, as the trait `Board` asks for an output.
         for output in 0..board.doors() + 1 {
             hold(&mut board, output);
         }

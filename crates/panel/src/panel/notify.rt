@@ -21,6 +21,7 @@ fn notice_of(serial: u64, door: usize, row: &Row, transition: Transition) -> Not
     }
 }
 
+// That a serial is left stands at each private step that may raise a notice: the bound goes by the tenth, which is the panel's.
 impl<B: Board> Panel<B> {
     /// A notice waits, and the next has the next serial.
     fn keep(&mut self, notice: Notice)

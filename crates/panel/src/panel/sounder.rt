@@ -9,6 +9,7 @@ use board::refusal::{Layer, Refusal};
 use board::status::Output;
 use slots::sounder::{Sounder, SounderValue};
 
+// No `From`: neither type is of this crate.
 fn output_for(value: SounderValue) -> Output
     ensures { result ≡ sounder_output value }
 {

@@ -62,7 +62,7 @@ impl<B: Board> Panel<B> {
         ensures after { view B.held B.memory self.new ≡ doors_stepped (doors_of (view B.held B.memory self.old)) (view B.held B.memory self.old) }
         ensures memory { B.memory self.new.board ≡ doors_driven B.driven (doors_of (view B.held B.memory self.old)) (view B.held B.memory self.old) (B.memory self.old.board) }
     {
-        // By number, since the board is asked and driven by number.
+        // By number, as the trait `Board` asks for a door.
         for door in 0..self.board.doors() {
             self.step_door(door);
         }

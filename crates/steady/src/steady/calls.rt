@@ -105,7 +105,7 @@ impl<B: Board> Board for Steady<B> {
 
     fn tick(&mut self, bytes: &[u8]) -> Result<(), Refusal> {
         self.below.tick(bytes)?;
-        // By number, since the board below is asked by number.
+        // By number, as the trait `Board` asks for a door.
         for door in 0..self.doors() {
             self.follow(door);
         }
