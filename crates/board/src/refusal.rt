@@ -1,13 +1,12 @@
 ghost use Rattle.std.specs.Prelude.{◌≡◌, Some};
-ghost use Rattle.board.specs.Refusals.{cause_number, layer_number, goes_before, refusal_of, refusal_text};
+ghost use Rattle.board.specs.Refusals.{cause_number, layer_number, goes_before, cause_order, position, refusal_of, refusal_text};
 ghost use Rattle.board.specs.Refusals.{no_such_output, wrong_tick_length};
 
 use std::fmt;
 
 /// Why a call is refused. The first seven are faults of the input, the others of the state at that moment.
-/// Causes are ordered by number, and that is the order in which they go: a later cause that is to stand in the middle will need an
-/// order of its own in `goes_before`, whose proof would fail without it.
-#[derive(Clone, Copy, PartialEq, Eq, PartialOrd, Ord, Debug)]
+// No derived order: it would go by the declared numbers, and the order in which causes go is a list of its own.
+#[derive(Clone, Copy, PartialEq, Eq, Debug)]
 pub enum Cause {
     NoSuchDoor = 1,
     NoSuchPriority = 2,
@@ -48,11 +47,33 @@ impl Cause {
         self as u8
     }
 
+    /// Where the cause stands in the order in which causes go. Apart from its number: a later cause may stand in the middle.
+    fn rank(self) -> u8
+        ensures { result ≡ position self cause_order }
+    {
+        match self {
+            Cause::NoSuchDoor => 0,
+            Cause::NoSuchPriority => 1,
+            Cause::ValueOutOfRange => 2,
+            Cause::NoSuchItem => 3,
+            Cause::WrongTickLength => 4,
+            Cause::RecordCut => 5,
+            Cause::BadRecord => 6,
+            Cause::SimulateInService => 7,
+            Cause::AlarmStateMasked => 8,
+            Cause::NoNoticeWaiting => 9,
+            Cause::SlipIsOut => 10,
+            Cause::NoSuchSlip => 11,
+            Cause::ReportTooLong => 12,
+            Cause::LastTenth => 13,
+        }
+    }
+
     /// Where both hold of one call, whether it is refused for this cause and not for the other.
     pub fn goes_before(self, other: Cause) -> bool
         ensures { result ≡ goes_before self other }
     {
-        self < other
+        self.rank() < other.rank()
     }
 }
 

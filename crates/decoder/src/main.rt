@@ -29,34 +29,26 @@ fn rows_wanted(rt: &HostRuntime) -> anyhow::Result<usize> {
     }
 }
 
-/// The bytes of a report, and its line, counted from 1.
-#[derive(Drop)]
-struct Report {
-    line: usize,
-    bytes: Vec<u8>,
-}
-
-/// The reports of all lines. Prints each faulty line with its reason, and fails if there is one.
-fn read_reports(rt: &HostRuntime, text: &[u8]) -> anyhow::Result<Vec<Report>> {
-    let mut reports = Vec::new(rt.alloc());
+/// Prints each faulty line with its reason, and fails if there is one. No report is kept: a list of any length takes the memory of
+/// its text and of one report.
+fn check_lines(rt: &HostRuntime, text: &[u8]) -> anyhow::Result<()> {
     let mut found = false;
     // A line has a byte at least.
     for (line, content) in (1..=text.len()).zip(Lines::of(text)) {
         match read_report(rt.alloc(), content) {
-            Ok(Some(bytes)) => reports.push(Report { line, bytes })?,
-            Ok(None) => {}
-            // Want of memory is no fault of the line.
-            Err(ReadFault::OutOfMemory(error)) => return Err(error.into()),
+            Ok(_) => {}
             Err(ReadFault::Word(fault)) => {
                 eprintln!(rt; "line {line}: {fault}")?;
                 found = true;
             }
+            // Want of memory is no fault of the line.
+            Err(error) => return Err(error.into()),
         }
     }
     if found {
         return Err(anyhow!("nothing was decoded"));
     }
-    Ok(reports)
+    Ok(())
 }
 
 /// Prints what a record says, applies it, and prints a refusal, if it is refused.
@@ -93,14 +85,14 @@ fn print_mirror(rt: &HostRuntime, mirror: &[ReportRow]) -> anyhow::Result<()> {
     Ok(())
 }
 
-fn decode_all(
-    rt: &HostRuntime,
-    reports: &[Report],
-    mirror: &mut [ReportRow],
-) -> anyhow::Result<()> {
-    for report in reports {
-        println!(rt; "line {} bytes={}", report.line, report.bytes.len())?;
-        decode(rt, report.bytes.as_slice(), mirror)?;
+/// Decodes the report of each line. The lines are read again, one at a time, so that no more than one report is held.
+fn decode_all(rt: &HostRuntime, text: &[u8], mirror: &mut [ReportRow]) -> anyhow::Result<()> {
+    for (line, content) in (1..=text.len()).zip(Lines::of(text)) {
+        let Some(bytes) = read_report(rt.alloc(), content)? else {
+            continue;
+        };
+        println!(rt; "line {line} bytes={}", bytes.len())?;
+        decode(rt, bytes.as_slice(), mirror)?;
         print_mirror(rt, mirror)?;
     }
     Ok(())
@@ -110,9 +102,9 @@ fn run(rt: &HostRuntime) -> anyhow::Result<()> {
     let rows = rows_wanted(rt)?;
     let mut text = Vec::new(rt.alloc());
     rt.stdin().read_to_end(&mut text)?;
-    let reports = read_reports(rt, text.as_slice())?;
+    check_lines(rt, text.as_slice())?;
     let mut mirror = vec![in rt.alloc(); Row::at_making().report_row(); rows]?;
-    decode_all(rt, reports.as_slice(), mirror.as_mut_slice())
+    decode_all(rt, text.as_slice(), mirror.as_mut_slice())
 }
 
 fn main(rt: HostRuntime) -> anyhow::Result<()> {

@@ -28,3 +28,8 @@ word_reason NotANumber = codes "not a number"
 word_reason TooLarge = codes "number too large"
 word_reason NotHex = codes "not a hex digit"
 word_reason OddHex = codes "odd number of hex digits"
+
+-- want of memory in the words of std's own error
+abbrev pub read_reason : ReadFault → List ℕ
+read_reason (Word fault) = word_reason fault
+read_reason (OutOfMemory e) = codes "memory allocation failed"

@@ -1,10 +1,11 @@
 ghost use Rattle.std.specs.Prelude.{◌≡◌, Some};
-ghost use Rattle.line_words.specs.Fault.{number_fault, hex_read_fault, word_reason};
+ghost use Rattle.line_words.specs.Fault.{number_fault, hex_read_fault, word_reason, read_reason};
 ghost use Rattle.line_words.specs.declared.fault.ReadFault.TheVariants.{Word};
 
 use numeral::decimal::NumberFault;
 use numeral::hex::HexFault;
 use std::alloc::AllocError;
+use std::error::Error;
 use std::fmt;
 
 /// What is wrong with a word of a line, or with how many there are.
@@ -20,7 +21,7 @@ pub enum WordFault {
 }
 
 /// Why nothing was read. Want of memory is no fault of a word.
-#[derive(Clone, Copy)]
+#[derive(Clone, Copy, PartialEq, Eq, Debug)]
 pub enum ReadFault {
     Word(WordFault),
     OutOfMemory(AllocError),
@@ -80,3 +81,16 @@ impl fmt::Display for WordFault {
         f.write_str(WordFault::reason(*self))
     }
 }
+
+impl fmt::Display for ReadFault {
+    ghost output = { λ fault. Some (read_reason fault) };
+
+    fn fmt<W: fmt::Write>(&self, f: &mut fmt::Formatter<W>) -> fmt::Result {
+        match self {
+            ReadFault::Word(word) => f.write_str(WordFault::reason(*word)),
+            ReadFault::OutOfMemory(_) => f.write_str("memory allocation failed"),
+        }
+    }
+}
+
+impl Error for ReadFault {}

@@ -45,6 +45,12 @@ IsWantOfMemory NotHex = ⊥
 IsWantOfMemory OddDigits = ⊥
 IsWantOfMemory (OutOfMemory e) = ⊤
 
+-- want of memory in the words of std's own error
+abbrev pub hex_reason : HexFault → List ℕ
+hex_reason NotHex = codes "not a hex digit"
+hex_reason OddDigits = codes "odd number of hex digits"
+hex_reason (OutOfMemory e) = codes "memory allocation failed"
+
 -- the digit for a number below 16, in lower case
 abbrev pub hex_char : ℕ → ℕ
 hex_char d = cond (nat_lt d 10) (48 + d) (87 + d)

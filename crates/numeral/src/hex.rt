@@ -1,9 +1,11 @@
 //! Bytes written as hex digits, two for each.
-ghost use Rattle.std.specs.Prelude.{◌≡◌, ◌<◌, ◌⊎◌, [], ◌∷◌, ◌++◌, IfOk, IsErrAnd, string_bytes, OnOk};
-ghost use Rattle.numeral.specs.Hex.{hex_digit, hex_value, all_hex, hex_pairs, hex_answer, bytes_read, IsWantOfMemory, hex_char, hex_text};
+ghost use Rattle.std.specs.Prelude.{◌≡◌, ◌<◌, ◌⊎◌, [], ◌∷◌, ◌++◌, IfOk, IsErrAnd, Some, string_bytes, OnOk};
+ghost use Rattle.numeral.specs.Hex.{hex_digit, hex_value, all_hex, hex_pairs, hex_answer, bytes_read, IsWantOfMemory, hex_reason, hex_char, hex_text};
 ghost use Rattle.numeral.specs.declared.hex.HexFault.TheVariants.{OutOfMemory};
 
 use std::alloc::{AllocError, Global};
+use std::error::Error;
+use std::fmt;
 
 /// Why a word gives no bytes.
 #[derive(Clone, Copy, PartialEq, Eq, Debug)]
@@ -23,6 +25,20 @@ impl From<AllocError> for HexFault {
         HexFault::OutOfMemory(error)
     }
 }
+
+impl fmt::Display for HexFault {
+    ghost output = { λ fault. Some (hex_reason fault) };
+
+    fn fmt<W: fmt::Write>(&self, f: &mut fmt::Formatter<W>) -> fmt::Result {
+        match self {
+            HexFault::NotHex => f.write_str("not a hex digit"),
+            HexFault::OddDigits => f.write_str("odd number of hex digits"),
+            HexFault::OutOfMemory(_) => f.write_str("memory allocation failed"),
+        }
+    }
+}
+
+impl Error for HexFault {}
 
 /// The bytes that `word` writes; a `-` alone writes none.
 pub fn hex_bytes(heap: Global, word: &[u8]) -> Result<Vec<u8>, HexFault>

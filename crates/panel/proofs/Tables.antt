@@ -1,5 +1,5 @@
 -- The view of a panel after its tables are read or written. Assumes nothing.
-use Rattle.std.proofs.Common.{◌≡◌, ℕ, ◌+◌, ◌<◌, ◌≤◌, Bool, true, false, cond, List, length, get_or, take, set, is_some, Some, None, Option, Result, sym, refl, ap, ◌∙◌, subst, arith, MatchOption}
+use Rattle.std.proofs.Common.{◌≡◌, ℕ, ◌+◌, ◌<◌, ◌≤◌, Bool, true, false, cond, List, length, get_or, take, set, Result, sym, refl, ap, ◌∙◌, subst, arith}
 use lib.Seq.{take-set-lt}
 use Rattle.std.proofs.lemmas.List.{get_or-take, get_or_default}
 use Rattle.board.specs.Held.{Held, with_output}
@@ -9,7 +9,7 @@ use Rattle.slots.specs.declared.sounder.Sounder.{Sounder}
 use Rattle.door.specs.declared.door.Door.{Door}
 use Rattle.door.specs.declared.row.Row.{Row}
 use Rattle.door.specs.declared.shown.ReportRow.{ReportRow}
-use Rattle.door.specs.Row.{legal, row_at_making}
+use Rattle.door.specs.Row.{row_at_making}
 use Rattle.door.specs.Calls.{row_of}
 use Rattle.notices.specs.declared.notice.Notice.{Notice}
 use Rattle.notices.specs.declared.waiting.Waiting.{Waiting}

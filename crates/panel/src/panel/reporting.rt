@@ -11,12 +11,18 @@ use door::shown::ReportRow;
 use report::write::write_report;
 
 impl<B: Board> Panel<B> {
-    /// What a report tells of each door now, and behind the last door of the rows that no door has.
+    /// What a report tells of each door now. Behind the last door it holds rows as at making, which are not reported.
     fn rows_now(&self) -> [ReportRow; 64]
         ensures value { take (B.held (B.memory self.now.board)).doors result ≡ rows_now (view B.held B.memory self.now) }
         ensures len { length result ≡ 64 }
     {
-        self.rows.map(|row| row.report_row())
+        let mut rows = [Row::at_making().report_row(); 64];
+        // The doors' rows alone, and in place: `map` of the array moves the whole table, for one door as for 64.
+        let of_doors = &self.rows[..self.board.doors()];
+        for (door, row) in of_doors.iter().enumerate() {
+            rows[door] = row.report_row();
+        }
+        rows
     }
 
     /// Writes a report of what has changed into the buffer, and remembers the rows as reported; a refused one is as if it had not
